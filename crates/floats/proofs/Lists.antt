@@ -1,0 +1,91 @@
+-- From a computed test over a list to what it says of each member, and tests over lists joined.
+-- Assumes nothing.
+use mathlib.Core.Path.{_≡_, refl, sym, ap, subst, _∙_}
+use mathlib.Core.Logic.{_⊎_, inl, inr}
+use mathlib.Core.Bool.{Bool, true, false, not, _&&_, _||_, cond, Bool·beq, and-assoc, false≢true}
+use mathlib.Core.List.{List, [], _∷_, _++_, List·Memᴰ, List·Memᴰ·head, List·Memᴰ·tail, List·Memᴰ·cases-cons, List·Memᴰ·not-nil}
+use Prim.Native.Nat.{ℕ, zero, suc, _+_}
+use native.Mathlib.Omega.{arith}
+use lib.Dec.{T}
+use lib.Ieee.Fits.{and-l, and-r}
+use Rattle.floats.specs.Lists.{all, any, filter, count, differ}
+
+pub so : {b : Bool} → T b → b ≡ true
+so {b} t = go b t
+  where
+    go : (b : Bool) → T b → b ≡ true
+    go true t = refl
+    go false t = absurd t
+
+pub os : {b : Bool} → b ≡ true → T b
+os h = subst T (sym h) tt
+
+pub or-cases : (a b : Bool) → T (a || b) → T a ⊎ T b
+or-cases true b t = inl tt
+or-cases false b t = inr t
+
+pub same-bool : (a b : Bool) → T (Bool·beq a b) → a ≡ b
+same-bool true true t = refl
+same-bool true false t = absurd t
+same-bool false true t = absurd t
+same-bool false false t = refl
+
+-- what holds of all holds of each member
+pub all-at : {A : Type 0} (f : A → Bool) (xs : List A) {x : A} → T (all f xs) → List·Memᴰ x xs → T (f x)
+unfolding all
+all-at f [] t m = absurd (List·Memᴰ·not-nil m)
+all-at f (y ∷ ys) {x} t m = go (List·Memᴰ·cases-cons m) (λ k. all-at f ys (and-r (f y) (all f ys) t) k)
+  where
+    go : (x ≡ y) ⊎ List·Memᴰ x ys → (List·Memᴰ x ys → T (f x)) → T (f x)
+    go (inl e) rest = subst (λ z. T (f z)) (sym e) (and-l (f y) (all f ys) t)
+    go (inr k) rest = rest k
+
+-- where not all pass, one does not
+pub fails-at : {A : Type 0} (f : A → Bool) (xs : List A) → all f xs ≡ false → (x : A) × List·Memᴰ x xs × (f x ≡ false)
+unfolding all
+fails-at f [] h = absurd (false≢true (sym h))
+fails-at f (y ∷ ys) h = go (f y) refl h (λ k. fails-at f ys k)
+  where
+    go : (b : Bool) → f y ≡ b → (b && all f ys) ≡ false → (all f ys ≡ false → (x : _) × List·Memᴰ x ys × (f x ≡ false)) → (x : _) × List·Memᴰ x (y ∷ ys) × (f x ≡ false)
+    go true e h rest = let r = rest h in (r .0, List·Memᴰ·tail (r .1), r .2)
+    go false e h rest = (y, List·Memᴰ·head refl, e)
+
+-- where one member fails, not all pass
+pub fails-all : {A : Type 0} (f : A → Bool) (xs : List A) {x : A} → List·Memᴰ x xs → f x ≡ false → all f xs ≡ false
+fails-all f xs m h = go (all f xs) refl
+  where
+    go : (b : Bool) → all f xs ≡ b → all f xs ≡ false
+    go true e = absurd (subst T h (all-at f xs (os e) m))
+    go false e = e
+
+pub all-append : {A : Type 0} (f : A → Bool) (xs ys : List A) → all f (xs ++ ys) ≡ (all f xs && all f ys)
+unfolding all
+all-append f [] ys = refl
+all-append f (x ∷ xs) ys = ap (λ b. f x && b) (all-append f xs ys) ∙ sym (and-assoc (f x) (all f xs) (all f ys))
+
+-- a test that finds a member, by a test of sameness that is right
+pub any-member : {A : Type 0} (same : A → A → Bool) → ((a b : A) → T (same a b) → a ≡ b) → (x : A) (ys : List A) → T (any (same x) ys) → List·Memᴰ x ys
+unfolding any
+any-member same is x [] t = absurd t
+any-member same is x (y ∷ ys) t = elim (or-cases (same x y) (any (same x) ys) t) [
+  | inl h ↦ List·Memᴰ·head (is x y h)
+  | inr h ↦ List·Memᴰ·tail (any-member same is x ys h)
+]
+
+pub filter-append : {A : Type 0} (f : A → Bool) (xs ys : List A) → filter f (xs ++ ys) ≡ filter f xs ++ filter f ys
+unfolding filter
+filter-append f [] ys = refl
+filter-append f (x ∷ xs) ys = go (f x) (filter-append f xs ys)
+  where
+    go : (b : Bool) → filter f (xs ++ ys) ≡ filter f xs ++ filter f ys → cond b (x ∷ filter f (xs ++ ys)) (filter f (xs ++ ys)) ≡ cond b (x ∷ filter f xs) (filter f xs) ++ filter f ys
+    go true h = ap (x ∷_) h
+    go false h = h
+
+pub count-append : {A : Type 0} (f : A → Bool) (xs ys : List A) → count f (xs ++ ys) ≡ count f xs + count f ys
+unfolding count
+count-append f [] ys = omega arith
+count-append f (x ∷ xs) ys = go (f x) (count-append f xs ys)
+  where
+    go : (b : Bool) → count f (xs ++ ys) ≡ count f xs + count f ys → cond b (suc (count f (xs ++ ys))) (count f (xs ++ ys)) ≡ cond b (suc (count f xs)) (count f xs) + count f ys
+    go true h = omega arith
+    go false h = h

@@ -1,0 +1,136 @@
+-- Only a quotient turns a value that is not finite into a finite one. So a value made of sums, differences, products and negations alone is
+-- finite exactly if every value on its way is: its last value tells. Assumes nothing.
+use mathlib.Core.Path.{_≡_, refl, sym, ap, ap₂, _∙_}
+use mathlib.Core.Bool.{Bool, true, false, _&&_, cond, and-true, and-false, false≢true}
+use mathlib.Core.List.{List, [], _∷_, _++_}
+use lib.Dec.{eqb}
+use lib.Ieee.{Float, nan, inf, fin, binary64, add, sub, mul, div, neg, unlike, ofBits}
+use Rattle.floats.specs.Lists.{all}
+use Rattle.floats.specs.Finite.{finite}
+use Rattle.floats.specs.Numbers.{Numbers, Point, cross, crossFrom}
+use Rattle.floats.specs.Way.{Way, given, step, _⊕_, _⊖_, _⊗_, _⊘_, negated, fine, f64}
+use Rattle.floats.proofs.Lists.{all-append}
+
+-- the result of an operation is fine exactly if all before it is finite and it is itself
+pub fine-step : (v : Float) (before : List Float) → fine (step v before) ≡ (all finite before && finite v)
+unfolding all
+fine-step v before = all-append finite before (v ∷ []) ∙ ap (λ b. all finite before && b) (and-true (finite v))
+
+-- the value tells: it is finite exactly if every value on its way is
+abbrev pub Told : Way → Type 0
+Told a = fine a ≡ finite (a .value)
+
+-- the value tells at least where it is finite, as that of a given one does
+abbrev pub Kept : Way → Type 0
+Kept a = finite (a .value) ≡ true → fine a ≡ true
+
+pub given-kept : (v : Float) → Kept (given v)
+unfolding all
+given-kept v h = refl
+
+pub told-kept : (a : Way) → Told a → Kept a
+told-kept a t h = t ∙ h
+
+-- ---- one operation: finite only where both operands are
+Both : Float → Float → Float → Type 0
+Both x y r = finite r ≡ true → (finite x ≡ true) × (finite y ≡ true)
+
+both : (x y : Float) (r : Float) → (finite x && finite y && finite r) ≡ finite r → Both x y r
+unfolding Both
+both x y r e h = go (finite x) (finite y) (finite r) e h
+  where
+    go : (a b c : Bool) → (a && b && c) ≡ c → c ≡ true → (a ≡ true) × (b ≡ true)
+    go true true c e h = (refl, refl)
+    go true false c e h = (refl, e ∙ h)
+    go false b c e h = (e ∙ h, absurd (false≢true (e ∙ h)))
+
+never : (b s : Bool) → false ≡ finite (cond b nan (inf s))
+never true s = refl
+never false s = refl
+
+add-both : (x y : Float) → (finite x && finite y && finite (add binary64 x y)) ≡ finite (add binary64 x y)
+unfolding add
+add-both nan y = refl
+add-both (inf s) nan = refl
+add-both (inf true) (inf true) = refl
+add-both (inf true) (inf false) = refl
+add-both (inf false) (inf true) = refl
+add-both (inf false) (inf false) = refl
+add-both (inf s) (fin t n d) = refl
+add-both (fin s m e) nan = refl
+add-both (fin s m e) (inf t) = refl
+add-both (fin s m e) (fin t n d) = refl
+
+pub neg-finite : (x : Float) → finite (neg x) ≡ finite x
+unfolding neg
+neg-finite nan = refl
+neg-finite (inf s) = refl
+neg-finite (fin s m e) = refl
+
+sub-both : (x y : Float) → (finite x && finite y && finite (sub binary64 x y)) ≡ finite (sub binary64 x y)
+unfolding sub
+sub-both x y = ap (λ b. finite x && b && finite (add binary64 x (neg y))) (sym (neg-finite y)) ∙ add-both x (neg y)
+
+mul-both : (x y : Float) → (finite x && finite y && finite (mul binary64 x y)) ≡ finite (mul binary64 x y)
+unfolding mul
+mul-both nan y = refl
+mul-both (inf s) nan = refl
+mul-both (inf s) (inf t) = refl
+mul-both (inf s) (fin t n d) = never (eqb n 0) (unlike s t)
+mul-both (fin s m e) nan = refl
+mul-both (fin s m e) (inf t) = never (eqb m 0) (unlike s t)
+mul-both (fin s m e) (fin t n d) = refl
+
+-- ---- a result that is finite only where its operands are tells
+tells : (a b : Way) (v : Float) → Kept a → Kept b → Both (a .value) (b .value) v → Told (step v (a .way ++ b .way))
+unfolding Both
+tells a b v ka kb h =
+    fine-step v (a .way ++ b .way)
+    ∙ (ap (λ t. t && finite v) (all-append finite (a .way) (b .way))
+    ∙ go (fine a) (fine b) (finite v) refl)
+  where
+    go : (x y z : Bool) → finite v ≡ z → (fine a && fine b && z) ≡ z
+    go x y true e = let r = h e in rw (ka (r .0), kb (r .1)) refl
+    go x y false e = and-false (fine a && fine b)
+
+pub told-add : (a b : Way) → Kept a → Kept b → Told (a ⊕ b)
+told-add a b ka kb = tells a b (add binary64 (a .value) (b .value)) ka kb (both _ _ _ (add-both (a .value) (b .value)))
+
+pub told-sub : (a b : Way) → Kept a → Kept b → Told (a ⊖ b)
+told-sub a b ka kb = tells a b (sub binary64 (a .value) (b .value)) ka kb (both _ _ _ (sub-both (a .value) (b .value)))
+
+pub told-mul : (a b : Way) → Kept a → Kept b → Told (a ⊗ b)
+told-mul a b ka kb = tells a b (mul binary64 (a .value) (b .value)) ka kb (both _ _ _ (mul-both (a .value) (b .value)))
+
+pub kept-negated : (a : Way) → Kept a → Kept (negated a)
+kept-negated a k h = fine-step (neg (a .value)) (a .way) ∙ ap₂ _&&_ (k (sym (neg-finite (a .value)) ∙ h)) h
+
+-- negated where the test holds
+pub kept-flip : (b : Bool) (a : Way) → Kept a → Kept (cond b (negated a) a)
+kept-flip true a k = kept-negated a k
+kept-flip false a k = k
+
+-- ---- the formulas
+pub told-cross : (p q r s : Way) → Kept p → Kept q → Kept r → Kept s → Told (cross f64 p q r s)
+told-cross p q r s kp kq kr ks =
+    told-sub (p ⊗ s) (q ⊗ r) (told-kept (p ⊗ s) (told-mul p s kp ks)) (told-kept (q ⊗ r) (told-mul q r kq kr))
+
+pub kept-sub : (a b : Way) → Kept a → Kept b → Kept (a ⊖ b)
+kept-sub a b ka kb = told-kept (a ⊖ b) (told-sub a b ka kb)
+
+-- a point whose two components tell where they are finite
+abbrev pub KeptPoint : Point Way → Type 0
+KeptPoint p = Kept (p .x) × Kept (p .y)
+
+pub told-crossFrom : (a b c : Point Way) → KeptPoint a → KeptPoint b → KeptPoint c → Told (crossFrom f64 a b c)
+told-crossFrom a b c ka kb kc =
+    told-cross (b .x ⊖ a .x) (b .y ⊖ a .y) (c .x ⊖ a .x) (c .y ⊖ a .y)
+    (kept-sub _ _ (kb .0) (ka .0)) (kept-sub _ _ (kb .1) (ka .1)) (kept-sub _ _ (kc .0) (ka .0)) (kept-sub _ _ (kc .1) (ka .1))
+
+-- ---- a quotient hides what is on its way: 1 divided by the sum of the two largest values is a finite zero, and not fine
+abbrev largest : Float
+largest = ofBits binary64 0x7fef_ffff_ffff_ffff
+
+pub hidden : (finite ((given largest ⊘ (given largest ⊕ given largest)) .value) ≡ true) × (fine (given largest ⊘ (given largest ⊕ given largest)) ≡ false)
+unfolding all add div ofBits
+hidden = (refl, refl)

@@ -1,0 +1,4 @@
+pub mod Lists
+pub mod Finite
+pub mod Numbers
+pub mod Way

@@ -1,0 +1,4 @@
+pub mod Lines
+pub mod Parameters
+pub mod Crossings
+pub mod Round

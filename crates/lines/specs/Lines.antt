@@ -1,0 +1,54 @@
+-- 01, "Numbers and lines" and "Crossings and their order along an edge": lines, corners, edges and signs by number. Definitions only.
+use mathlib.Core.Bool.{Bool, true, false}
+use mathlib.Core.List.{List, [], _∷_}
+use Prim.Native.Nat.{ℕ, zero, suc}
+use lib.ListN.{getD}
+
+-- m numbers from i on
+unfoldable pub upFrom : ℕ → ℕ → List ℕ
+upFrom i zero = []
+upFrom i (suc m) = i ∷ upFrom (suc i) m
+
+-- the lines 0 .. n−1; a triangle's are 0 (x), 1 (y), 2 (w)
+unfoldable pub lines : ℕ → List ℕ
+unfolding upFrom
+lines n = upFrom 0 n
+
+-- three things by number: U's vertices, its edges, V's corners
+abbrev pub three : List ℕ
+three = 0 ∷ 1 ∷ 2 ∷ []
+
+-- V's corner at x,y is V0, at y,w is V1, at x,w is V2: a table from two lines to the corner, of no meaning where the two are one
+abbrev pub cornerTable : List (List ℕ)
+cornerTable = (0 ∷ 0 ∷ 2 ∷ []) ∷ (0 ∷ 1 ∷ 1 ∷ []) ∷ (2 ∷ 1 ∷ 2 ∷ []) ∷ []
+
+abbrev pub cornerOn : ℕ → ℕ → ℕ
+cornerOn a b = getD (getD cornerTable a []) b 0
+
+-- the same from the corner: its two lines, the lower first
+abbrev pub lineTable : List (List ℕ)
+lineTable = (0 ∷ 1 ∷ []) ∷ (1 ∷ 2 ∷ []) ∷ (0 ∷ 2 ∷ []) ∷ []
+
+abbrev pub lowerLine : ℕ → ℕ
+lowerLine k = getD (getD lineTable k []) 0 0
+
+abbrev pub upperLine : ℕ → ℕ
+upperLine k = getD (getD lineTable k []) 1 0
+
+-- edge 0 of U runs from U0 to U1, edge 1 from U1 to U2, edge 2 from U2 to U0
+abbrev pub endTable : List (List ℕ)
+endTable = (0 ∷ 1 ∷ []) ∷ (1 ∷ 2 ∷ []) ∷ (2 ∷ 0 ∷ []) ∷ []
+
+abbrev pub start : ℕ → ℕ
+start e = getD (getD endTable e []) 0 0
+
+abbrev pub finish : ℕ → ℕ
+finish e = getD (getD endTable e []) 1 0
+
+-- of a vertex's signs the one on line a; true is plus
+abbrev pub sign : List Bool → ℕ → Bool
+sign s a = getD s a false
+
+-- of the signs of several vertices those of vertex i, as an edge's walk takes them
+abbrev pub signsAt : List (List Bool) → ℕ → ℕ → Bool
+signsAt ss i = sign (getD ss i [])

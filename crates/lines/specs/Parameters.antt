@@ -1,0 +1,51 @@
+-- 01, "Numbers and lines": a vertex's parameters, in any numbers, and their signs. Definitions only.
+use Prim.Native.Nat.{ℕ}
+use mathlib.Core.Bool.{Bool, true, false, not, _||_, cond}
+use mathlib.Core.List.{List, [], _∷_, _++_}
+use lib.Dec.{eqb}
+use Rattle.floats.specs.Lists.{any}
+use Rattle.floats.specs.Numbers.{Numbers, Point, crossFrom}
+use Rattle.floats.specs.Way.{Way, given, f64}
+use Rattle.lines.specs.declared.Params.{Params}
+
+-- each vertex carries its three parameters together
+pub record Parameters (N : Type 0) : Type 0 where
+  pub x : N
+  pub y : N
+  pub w : N
+
+-- the parameter of line a: 0 is x, 1 is y, 2 is w
+abbrev pub parameter : {N : Type 0} → Parameters N → ℕ → N
+parameter p a = cond (eqb a 0) (p .x) (cond (eqb a 1) (p .y) (p .w))
+
+-- the signs of a vertex from those of its parameters on all lines but the last, and on the last:
+-- if all others are minus, the last counts as plus unseen
+unfoldable pub unseen : List Bool → Bool → List Bool
+unfolding any
+unseen others last = others ++ ((not (any (λ s. s) others) || last) ∷ [])
+
+module _ (K : Numbers) where
+  -- with r = U − V0: x is the cross of r and V2 − V0, y that of V1 − V0 and r. If d < 0, then d, x and y are negated. w = (d − x) − y
+  abbrev pub parameters : Point (K .N) → Point (K .N) → Point (K .N) → Point (K .N) → Parameters (K .N)
+  parameters v0 v1 v2 u =
+      let d = crossFrom K v0 v1 v2 in
+      let turned : K .N → K .N = λ v. cond (K .isBelowZero d) (K .negate v) v in
+      let x = turned (crossFrom K v0 u v2) in
+      let y = turned (crossFrom K v0 v1 u) in
+      record { x = x; y = y; w = K .minus (K .minus (turned d) x) y }
+
+  -- plus if it is ≥ 0, else minus; if x and y are both minus, w counts as plus unseen
+  unfoldable pub signs : Parameters (K .N) → List Bool
+  unfolding unseen
+  signs p = unseen (K .isPlus (p .x) ∷ K .isPlus (p .y) ∷ []) (K .isPlus (p .w))
+
+-- ---- as the code carries them: three f64 a vertex
+abbrev pub carried : Params → Parameters Way
+carried p = record { x = given (p .x); y = given (p .y); w = given (p .w) }
+
+abbrev pub valuesOf : Parameters Way → Params
+valuesOf p = record { x = p .x .value; y = p .y .value; w = p .w .value }
+
+unfoldable pub signsOf : Params → List Bool
+unfolding signs
+signsOf p = signs f64 (carried p)
