@@ -1,6 +1,6 @@
 -- From a computed test over a list to what it says of each member, and tests over lists joined.
 -- Assumes nothing.
-use mathlib.Core.Path.{_≡_, refl, sym, ap, subst, _∙_}
+use mathlib.Core.Path.{_≡_, refl, sym, ap, ap₂, subst, _∙_}
 use mathlib.Core.Logic.{_⊎_, inl, inr}
 use mathlib.Core.Bool.{Bool, true, false, not, _&&_, _||_, cond, Bool·beq, and-assoc, false≢true}
 use mathlib.Core.List.{List, [], _∷_, _++_, List·Memᴰ, List·Memᴰ·head, List·Memᴰ·tail, List·Memᴰ·cases-cons, List·Memᴰ·not-nil}
@@ -8,7 +8,7 @@ use Prim.Native.Nat.{ℕ, zero, suc, _+_}
 use native.Mathlib.Omega.{arith}
 use lib.Dec.{T}
 use lib.Ieee.Fits.{and-l, and-r}
-use Rattle.floats.specs.Lists.{all, any, filter, count, differ}
+use Rattle.floats.specs.Lists.{all, any, filter, count, differ, sameList}
 
 pub so : {b : Bool} → T b → b ≡ true
 so {b} t = go b t
@@ -89,3 +89,10 @@ count-append f (x ∷ xs) ys = go (f x) (count-append f xs ys)
     go : (b : Bool) → count f (xs ++ ys) ≡ count f xs + count f ys → cond b (suc (count f (xs ++ ys))) (count f (xs ++ ys)) ≡ cond b (suc (count f xs)) (count f xs) + count f ys
     go true h = omega arith
     go false h = h
+
+pub same-list : {A : Type 0} (same : A → A → Bool) → ((a b : A) → T (same a b) → a ≡ b) → (x y : List A) → T (sameList same x y) → x ≡ y
+unfolding sameList
+same-list same is [] [] t = refl
+same-list same is [] (b ∷ y) t = absurd t
+same-list same is (a ∷ x) [] t = absurd t
+same-list same is (a ∷ x) (b ∷ y) t = ap₂ _∷_ (is a b (and-l (same a b) (sameList same x y) t)) (same-list same is x y (and-r (same a b) (sameList same x y) t))

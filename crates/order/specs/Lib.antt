@@ -1,0 +1,2 @@
+pub mod PairTest
+pub mod Order

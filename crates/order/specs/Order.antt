@@ -1,0 +1,113 @@
+-- 01, "Crossings and their order along an edge": the order of two and of three lines, and which pair tests are computed.
+-- From signs and outcomes of pair tests alone. Definitions only.
+use mathlib.Core.Bool.{Bool, true, false, not, _&&_, cond}
+use mathlib.Core.List.{List, [], _∷_, _++_, reverse, map}
+use Prim.Native.Nat.{ℕ, min, max}
+use lib.Dec.{eqb, ltb}
+use lib.ListN.{getD, length}
+use Rattle.floats.specs.Lists.{filter, differ}
+use Rattle.lines.specs.Lines.{lines, three, cornerOn, start, finish, signsAt}
+use Rattle.lines.specs.Crossings.{crossed, admissible}
+
+-- the lines of an edge in the order in which they are met, and the pair tests computed to find it, the lower line first
+pub record Decided : Type 0 where
+  pub order : List ℕ
+  pub tests : List (ℕ × ℕ)
+
+abbrev pub decided : List ℕ → List (ℕ × ℕ) → Decided
+decided o ts = record { order = o; tests = ts }
+
+-- every way to put x into a list, and every order of a list
+unfoldable pub insertions : ℕ → List ℕ → List (List ℕ)
+insertions x [] = (x ∷ []) ∷ []
+insertions x (y ∷ ys) = (x ∷ y ∷ ys) ∷ map (λ l. y ∷ l) (insertions x ys)
+
+unfoldable pub everyInsertion : ℕ → List (List ℕ) → List (List ℕ)
+unfolding insertions
+everyInsertion x [] = []
+everyInsertion x (l ∷ ls) = insertions x l ++ everyInsertion x ls
+
+unfoldable pub arrangements : List ℕ → List (List ℕ)
+unfolding everyInsertion
+arrangements [] = [] ∷ []
+arrangements (x ∷ xs) = everyInsertion x (arrangements xs)
+
+-- the admissible orders of an edge from the signs p to the signs q: those with no stretch that is minus on all lines
+unfoldable pub admissibleOrders : ℕ → (ℕ → Bool) → (ℕ → Bool) → List (List ℕ)
+unfolding filter arrangements admissible crossed
+admissibleOrders n p q = filter (admissible n p) (arrangements (crossed n p q))
+
+-- line a is met before line b, by the outcomes t: the pair test names the lower line first and walks from the end with the lower number.
+-- Walked from the other end (back) the order is reversed
+unfoldable pub before : List Bool → Bool → ℕ → ℕ → Bool
+before t back a b = differ back (differ (ltb b a) (getD t (cornerOn a b) false))
+
+-- the pair test that tells a from b
+abbrev pub pairOf : ℕ → ℕ → ℕ × ℕ
+pairOf a b = (min a b, max a b)
+
+-- two lines crossed, from the signs s: if one order only is admissible, it holds and D is not computed. Otherwise the pair test decides
+unfoldable pub two : (ℕ → ℕ → Bool) → (ℕ → Bool) → ℕ → ℕ → Decided
+unfolding admissible
+two first s a b =
+    let ab = admissible 3 s (a ∷ b ∷ []) in
+    let ba = admissible 3 s (b ∷ a ∷ []) in
+    cond (ab && not ba) (decided (a ∷ b ∷ []) [])
+    (cond (ba && not ab) (decided (b ∷ a ∷ []) [])
+    (cond (first a b) (decided (a ∷ b ∷ []) (pairOf a b ∷ [])) (decided (b ∷ a ∷ []) (pairOf a b ∷ []))))
+
+-- three lines crossed, walked from the end where c alone is minus, a < b the others: test a against c; if a comes first the order is a, c, b.
+-- Otherwise test b against c; if b comes first it is b, c, a. Otherwise c is first and the test of a against b gives the rest
+unfoldable pub around : (ℕ → ℕ → Bool) → ℕ → ℕ → ℕ → Decided
+around first c a b =
+    cond (first a c) (decided (a ∷ c ∷ b ∷ []) (pairOf a c ∷ []))
+    (cond (first b c) (decided (b ∷ c ∷ a ∷ []) (pairOf a c ∷ pairOf b c ∷ []))
+    (decided (c ∷ cond (first a b) (a ∷ b ∷ []) (b ∷ a ∷ [])) (pairOf a c ∷ pairOf b c ∷ pairOf a b ∷ [])))
+
+-- the lines on which s is minus, and those on which it is plus
+unfoldable pub minusOf : (ℕ → Bool) → List ℕ
+unfolding filter lines
+minusOf s = filter (λ a. not (s a)) (lines 3)
+
+unfoldable pub plusOf : (ℕ → Bool) → List ℕ
+unfolding filter lines
+plusOf s = filter s (lines 3)
+
+unfoldable pub fromEnd : (ℕ → ℕ → Bool) → (ℕ → Bool) → Decided
+unfolding around minusOf plusOf
+fromEnd first s = around first (getD (minusOf s) 0 0) (getD (plusOf s) 0 0) (getD (plusOf s) 1 0)
+
+-- walked from the other end the order is reversed
+abbrev pub turned : Decided → Decided
+turned d = decided (reverse (d .order)) (d .tests)
+
+-- three lines crossed: walk from the end with one minus
+unfoldable pub threeLines : List Bool → Bool → (ℕ → Bool) → (ℕ → Bool) → Decided
+unfolding fromEnd minusOf before
+threeLines t back p q = cond (eqb (length (minusOf p)) 1) (fromEnd (before t back) p) (turned (fromEnd (before t (not back)) q))
+
+-- by the lines that the edge from p to q crosses
+unfoldable pub decide : List Bool → Bool → (ℕ → Bool) → (ℕ → Bool) → List ℕ → Decided
+unfolding two threeLines before
+decide t back p q [] = decided [] []
+decide t back p q (a ∷ []) = decided (a ∷ []) []
+decide t back p q (a ∷ b ∷ []) = two (before t back) p a b
+decide t back p q (a ∷ b ∷ c ∷ r) = threeLines t back p q
+
+-- the order along an edge from the signs p to the signs q, walked from p; back where p stands at the end with the higher number
+unfoldable pub orderAlong : List Bool → Bool → (ℕ → Bool) → (ℕ → Bool) → Decided
+unfolding decide crossed
+orderAlong t back p q = decide t back p q (crossed 3 p q)
+
+-- edge e of U, with the signs ss of U's vertices and the outcomes ts e of its pair tests
+unfoldable pub decidedOn : List (List Bool) → (ℕ → List Bool) → ℕ → Decided
+unfolding orderAlong
+decidedOn ss ts e = orderAlong (ts e) (ltb (finish e) (start e)) (signsAt ss (start e)) (signsAt ss (finish e))
+
+-- the orders of all three edges
+unfoldable pub ordersOf : List (List Bool) → (ℕ → List Bool) → List (List ℕ)
+unfolding decidedOn
+ordersOf ss ts = map (λ e. decidedOn ss ts e .order) three
+
+abbrev pub orderAt : List (List ℕ) → ℕ → List ℕ
+orderAt os e = getD os e []

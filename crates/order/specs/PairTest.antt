@@ -1,0 +1,33 @@
+-- 01, "Crossings and their order along an edge": the pair test, in any numbers. Definitions only.
+-- ps i are the parameters of vertex i.
+use mathlib.Core.Bool.{Bool, true, false, cond, Bool·beq}
+use mathlib.Core.List.{List, [], _∷_, map}
+use Prim.Native.Nat.{ℕ, min, max}
+use Rattle.floats.specs.Numbers.{Numbers, cross}
+use Rattle.lines.specs.Lines.{three, sign, start, finish, lowerLine, upperLine}
+use Rattle.lines.specs.Parameters.{Parameters, parameter, signs}
+
+module _ (K : Numbers) where
+  -- for lines a < b on the edge from Ui to Uj, i < j, with the parameters p and q: D = a_i·b_j − a_j·b_i
+  abbrev pub pairD : Parameters (K .N) → Parameters (K .N) → ℕ → ℕ → K .N
+  pairD p q a b = cross K (parameter p a) (parameter q a) (parameter p b) (parameter q b)
+
+  -- line a is met first: if a and b have the same sign at Ui exactly if D ≥ 0, if they differ there exactly if D ≤ 0
+  unfoldable pub metFirst : Parameters (K .N) → Parameters (K .N) → ℕ → ℕ → Bool
+  unfolding signs
+  metFirst p q a b =
+      cond (Bool·beq (sign (signs K p) a) (sign (signs K p) b)) (K .isPlus (pairD p q a b)) (K .isAtMostZero (pairD p q a b))
+
+  -- the signs of U's three vertices
+  unfoldable pub signsOfU : (ℕ → Parameters (K .N)) → List (List Bool)
+  unfolding signs
+  signsOfU ps = map (λ i. signs K (ps i)) three
+
+  -- the pair test of lines a < b on edge e, taken from its end with the lower number
+  abbrev pub testOn : (ℕ → Parameters (K .N)) → ℕ → ℕ → ℕ → K .N
+  testOn ps e a b = pairD (ps (min (start e) (finish e))) (ps (max (start e) (finish e))) a b
+
+  -- what the pair tests on edge e say, by the corner on their two lines: the lower line is met first
+  unfoldable pub outcomesOn : (ℕ → Parameters (K .N)) → ℕ → List Bool
+  unfolding metFirst
+  outcomesOn ps e = map (λ k. metFirst (ps (min (start e) (finish e))) (ps (max (start e) (finish e))) (lowerLine k) (upperLine k)) three

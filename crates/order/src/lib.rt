@@ -1,0 +1,1 @@
+// The order in which an edge of U meets V's lines: definitions and laws.
