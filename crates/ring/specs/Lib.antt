@@ -1,0 +1,4 @@
+pub mod Places
+pub mod Flags
+pub mod Ring
+pub mod Demand

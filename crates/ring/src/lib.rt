@@ -1,0 +1,1 @@
+// Flags and ring of two triangles: definitions and laws.
