@@ -1,3 +1,4 @@
 pub mod Lists
 pub mod Told
 pub mod Zero
+pub mod Same

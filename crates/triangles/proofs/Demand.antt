@@ -1,0 +1,99 @@
+-- Demand 3 of every answer that is no refusal: the ring's own theorem, read in the answer's n, flags and room. Assumes nothing.
+use mathlib.Core.Path.{_≡_, refl, sym, ap, subst, _∙_}
+use mathlib.Core.Bool.{Bool, true, false, _&&_}
+use mathlib.Core.List.{List, [], _∷_, _++_, map, List·Memᴰ}
+use Prim.Native.Nat.{ℕ, zero, suc, _+_, _*_, _<_}
+use native.Mathlib.Omega.{arith}
+use lib.Dec.{T, ltb, ltb→lt}
+use lib.ListN.{getD, length, take, drop, length-map}
+use lib.Seq.{take-at}
+use lib.Ieee.{Float}
+use Rattle.floats.specs.Lists.{all, once}
+use Rattle.floats.specs.Numbers.{Point}
+use Rattle.floats.specs.Way.{Way, f64}
+use Rattle.floats.proofs.Lists.{all-at}
+use Rattle.lines.specs.Lines.{three, lowerLine, upperLine}
+use Rattle.lines.specs.Round.{cornerBy}
+use Rattle.ring.specs.Places.{Place, vertex, corner, crossing, fifteen}
+use Rattle.ring.specs.Flags.{vertexIn, cornerIn, found as foundPlace, verticesIn, cornersIn}
+use Rattle.ring.specs.Ring.{ring}
+use Rattle.ring.specs.Demand.{Holds, Sound}
+use Rattle.ring.proofs.Demand.{demand3 as ring-demand3}
+use Rattle.triangles.specs.declared.Answer.{Answer}
+use Rattle.triangles.specs.Pair.{signsOf, outcomesOf, ordersOfEdges, signsBy, ordersBy, carriedBy, ringOf}
+use Rattle.triangles.specs.Positions.{positionOf, cornersOf, valuesOfCorners}
+use Rattle.triangles.specs.Answers.{Whole, wholeOf, answered, found, written}
+use Rattle.triangles.specs.Demand.{foundIn, Demand3}
+use Rattle.triangles.proofs.Rows.{number-is, answered-is}
+
+-- two values a corner
+values-length : (cs : List (Point Way)) → length (valuesOfCorners cs) ≡ 2 * length cs
+unfolding valuesOfCorners
+values-length [] = refl
+values-length (c ∷ cs) = omega (arith, values-length cs)
+
+-- the fifteen places have numbers below three
+inRange : Place → Bool
+inRange (vertex i) = ltb i 3
+inRange (corner k) = ltb k 3
+inRange (crossing e a) = ltb e 3 && ltb a 3
+
+fifteen-in-range : T (all inRange fifteen)
+unfolding all inRange
+fifteen-in-range = tt
+
+below-three : (k : ℕ) → List·Memᴰ k three → k < 3
+below-three k m = ltb→lt k 3 (all-at (λ k. ltb k 3) three (unfold all in tt) m)
+
+module _ (l : List Float) where
+  sound : Sound (signsBy l) (ordersBy l)
+  unfolding signsOf outcomesOf ordersOfEdges
+  sound = ring-demand3 f64 (carriedBy l)
+
+  vertex-flag : (i : ℕ) → i < 3 → vertexIn (signsBy l) (ordersBy l) i ≡ getD (found l .«u_in_v») i false
+  unfolding found verticesIn
+  vertex-flag zero h = refl
+  vertex-flag (suc zero) h = refl
+  vertex-flag (suc (suc zero)) h = refl
+  vertex-flag (suc (suc (suc i))) h = absurd (omega arith)
+
+  corner-flag : (k : ℕ) → k < 3 → cornerIn (signsBy l) (ordersBy l) k ≡ getD (found l .«v_in_u») k false
+  unfolding found cornersIn
+  corner-flag zero h = refl
+  corner-flag (suc zero) h = refl
+  corner-flag (suc (suc zero)) h = refl
+  corner-flag (suc (suc (suc i))) h = absurd (omega arith)
+
+  -- what the ring's theorem calls found is what the answer's flags say
+  by-flags : (p : Place) → T (inRange p) → foundPlace (signsBy l) (ordersBy l) p ≡ foundIn l (found l) p
+  unfolding foundPlace inRange
+  by-flags (vertex i) t = vertex-flag i (ltb→lt i 3 t)
+  by-flags (corner k) t = corner-flag k (ltb→lt k 3 t)
+  by-flags (crossing e a) t = refl
+
+  held : Holds (foundIn l (found l)) (ringOf l)
+  unfolding ringOf
+  held = record {
+    exactly = λ p m. sound .holds .exactly p m ∙ ap once (by-flags p (all-at inRange fifteen fifteen-in-range m));
+    nothingElse = sound .holds .nothingElse;
+  }
+
+  lower-says : (k : ℕ) → List·Memᴰ k three → cornerBy (signsBy l) (ordersBy l) (lowerLine k) (upperLine k) ≡ getD (found l .«v_in_u») k false
+  unfolding cornerIn
+  lower-says k m = corner-flag k (below-three k m)
+
+  -- for every list of values and every room that are not refused
+  pub demand3 : (room : List Float) → wholeOf l room .answer .number ≡ 0 → Demand3 l room
+  unfolding answered found written ringOf cornersOf
+  demand3 room h =
+      let q = answered-is l room (sym (number-is l room) ∙ h) in
+      record {
+        noneOrTwo = sound .agrees .noneOrTwo;
+        lowerSays = λ k m. rw q (lower-says k m);
+        upperSays = λ k m. rw q (sound .agrees .bothLines (upperLine k) (lowerLine k) ∙ lower-says k m);
+        size = rw q (sound .size);
+        counted = rw q refl;
+        holds = rw q held;
+        neighbours = rw q (sound .neighbours);
+        positions = rw q (take-at (valuesOfCorners (cornersOf l)) _ _ (values-length (cornersOf l) ∙ ap (2 *_) (length-map (ringOf l) (positionOf l))));
+      }

@@ -1,0 +1,4 @@
+pub mod Cases
+pub mod Rows
+pub mod Unique
+pub mod Demand

@@ -1,0 +1,242 @@
+-- A row's test holds exactly if the row applies, so the cascade's number is that of the first row that applies. Assumes nothing.
+use mathlib.Core.Path.{_≡_, refl, sym, ap, subst, _∙_}
+use mathlib.Core.Logic.{_⊎_, inl, inr, _↔_}
+use mathlib.Core.Bool.{Bool, true, false, not, _&&_, _||_, cond, false≢true, or-true}
+use mathlib.Core.List.{List, [], _∷_, _++_, List·Memᴰ, List·Memᴰ·head as here, List·Memᴰ·tail as there, List·Memᴰ·cases-cons, List·Memᴰ·not-nil}
+use Prim.Native.Nat.{ℕ, zero, suc, _<_, _≤_}
+use native.Mathlib.Omega.{arith}
+use lib.Dec.{eqb, ltb}
+use lib.ListN.{length, getD, length-append, List·getD-append}
+use lib.Seq.{getD-append-seam}
+use lib.Ieee.{Float}
+use borrow.Author.Tests.{eqb-true, eqb-false, eq-eqb, ne-eqb, ltb-true, ltb-false, lt-ltb, not-true}
+use Rattle.floats.specs.Lists.{all}
+use Rattle.floats.specs.Finite.{finite}
+use Rattle.floats.proofs.Lists.{fails-at, fails-all}
+use Rattle.triangles.specs.declared.Answer.{Answer}
+use Rattle.triangles.specs.Refusals.{Row, lengths, coordinates, wayToD, dZero, wayToE, eZero, parameter, pairTest, position, area, table, numberOf, wayOf, notAllFinite, holds, firstOf, refusalOf}
+use Rattle.triangles.specs.Answers.{Whole, wholeOf, refused, answered, found}
+use Rattle.triangles.specs.Rows.{NotFinite, Applies, placeOf, First, RefusedBy, NoRow, ExactlyWhen}
+
+-- ---- each test against its row
+finite-test : (vs : List Float) → (notAllFinite vs ≡ true) ↔ NotFinite vs
+finite-test vs = ((λ h. fails-at finite vs (not-true (all finite vs) h)), (λ m. ap not (fails-all finite vs (m .1) (m .2))))
+
+lengths-test : (a b : ℕ) → ((not (eqb a 12) || ltb b 12) ≡ true) ↔ ((a ≡ 12 → ⊥) ⊎ (b < 12))
+lengths-test a b = (to (eqb a 12) refl, from)
+  where
+    to : (x : Bool) → eqb a 12 ≡ x → (not x || ltb b 12) ≡ true → (a ≡ 12 → ⊥) ⊎ (b < 12)
+    to true e h = inr (ltb-true b 12 h)
+    to false e h = inl (eqb-false a 12 e)
+
+    from : (a ≡ 12 → ⊥) ⊎ (b < 12) → (not (eqb a 12) || ltb b 12) ≡ true
+    from (inl h) = rw (ne-eqb a 12 h) refl
+    from (inr h) = rw (lt-ltb b 12 h) (or-true (not (eqb a 12)))
+
+holds-applies : (row : Row) (l room : List Float) → (holds row l room ≡ true) ↔ Applies row l room
+unfolding holds
+holds-applies lengths l room = lengths-test (length l) (length room)
+holds-applies coordinates l room = unfold wayOf in finite-test l
+holds-applies wayToD l room = finite-test (wayOf wayToD l)
+holds-applies dZero l room = ((λ h. h), (λ h. h))
+holds-applies wayToE l room = finite-test (wayOf wayToE l)
+holds-applies eZero l room = ((λ h. h), (λ h. h))
+holds-applies parameter l room = finite-test (wayOf parameter l)
+holds-applies pairTest l room = finite-test (wayOf pairTest l)
+holds-applies position l room = finite-test (wayOf position l)
+holds-applies area l room = finite-test (wayOf area l)
+
+-- ---- the first of a list of rows whose test holds
+module _ (l room : List Float) where
+  NoneOf : List Row → Type 0
+  NoneOf rows = (row : Row) → List·Memᴰ row rows → holds row l room ≡ false
+
+  record Leads (rows : List Row) : Type 0 where
+    before : List Row
+    row : Row
+    after : List Row
+    split : rows ≡ before ++ (row ∷ after)
+    holding : holds row l room ≡ true
+    none : NoneOf before
+    number : firstOf rows l room ≡ numberOf row
+
+  record Passes (rows : List Row) : Type 0 where
+    none : NoneOf rows
+    number : firstOf rows l room ≡ 0
+
+  none-more : (row : Row) (rows : List Row) → holds row l room ≡ false → NoneOf rows → NoneOf (row ∷ rows)
+  unfolding NoneOf
+  none-more row rows e n r m = go (List·Memᴰ·cases-cons m)
+    where
+      go : (r ≡ row) ⊎ List·Memᴰ r rows → holds r l room ≡ false
+      go (inl q) = ap (λ z. holds z l room) q ∙ e
+      go (inr k) = n r k
+
+  search-rows : (rows : List Row) → Passes rows ⊎ Leads rows
+  unfolding firstOf NoneOf
+  search-rows [] = inl (record { none = λ row m. absurd (List·Memᴰ·not-nil m); number = refl })
+  search-rows (row ∷ rows) = go (holds row l room) refl (search-rows rows)
+    where
+      go : (b : Bool) → holds row l room ≡ b → Passes rows ⊎ Leads rows → Passes (row ∷ rows) ⊎ Leads (row ∷ rows)
+      go true e rest = inr (record { before = []; row = row; after = rows; split = refl; holding = e; none = λ r m. absurd (List·Memᴰ·not-nil m); number = rw e refl })
+      go false e (inl p) = inl (record { none = none-more row rows e (p .none); number = rw e (p .number) })
+      go false e (inr r) = inr (record {
+        before = row ∷ r .before;
+        row = r .row;
+        after = r .after;
+        split = ap (row ∷_) (r .split);
+        holding = r .holding;
+        none = none-more row (r .before) e (r .none);
+        number = rw e (r .number);
+      })
+
+-- ---- the table: each row stands at its place
+at-place : (row : Row) → getD table (placeOf row) lengths ≡ row
+at-place lengths = refl
+at-place coordinates = refl
+at-place wayToD = refl
+at-place dZero = refl
+at-place wayToE = refl
+at-place eZero = refl
+at-place parameter = refl
+at-place pairTest = refl
+at-place position = refl
+at-place area = refl
+
+place-below : (row : Row) → placeOf row < length table
+place-below lengths = omega arith
+place-below coordinates = omega arith
+place-below wayToD = omega arith
+place-below dZero = omega arith
+place-below wayToE = omega arith
+place-below eZero = omega arith
+place-below parameter = omega arith
+place-below pairTest = omega arith
+place-below position = omega arith
+place-below area = omega arith
+
+place-at : (i : ℕ) → i < length table → placeOf (getD table i lengths) ≡ i
+place-at zero h = refl
+place-at (suc zero) h = refl
+place-at (suc (suc zero)) h = refl
+place-at (suc (suc (suc zero))) h = refl
+place-at (suc (suc (suc (suc zero)))) h = refl
+place-at (suc (suc (suc (suc (suc zero))))) h = refl
+place-at (suc (suc (suc (suc (suc (suc zero)))))) h = refl
+place-at (suc (suc (suc (suc (suc (suc (suc zero))))))) h = refl
+place-at (suc (suc (suc (suc (suc (suc (suc (suc zero)))))))) h = refl
+place-at (suc (suc (suc (suc (suc (suc (suc (suc (suc zero))))))))) h = refl
+place-at (suc (suc (suc (suc (suc (suc (suc (suc (suc (suc i)))))))))) h = absurd (omega arith)
+
+member-at : (rows : List Row) (i : ℕ) (d : Row) → i < length rows → List·Memᴰ (getD rows i d) rows
+member-at [] i d h = absurd (omega arith)
+member-at (r ∷ rows) zero d h = here refl
+member-at (r ∷ rows) (suc i) d h = there (member-at rows i d (omega arith))
+
+in-table : (row : Row) → List·Memᴰ row table
+in-table row = subst (λ r. List·Memᴰ r table) (at-place row) (member-at table (placeOf row) lengths (place-below row))
+
+module _ (before : List Row) (row : Row) (after : List Row) (split : table ≡ before ++ (row ∷ after)) where
+  shorter : length before < length table
+  shorter = let e = ap length split ∙ length-append before (row ∷ after) in omega (arith, e)
+
+  -- a row's place is the number of rows before it
+  place-is : placeOf row ≡ length before
+  place-is = ap placeOf (sym (getD-append-seam before row after lengths) ∙ ap (λ r. getD r (length before) lengths) (sym split)) ∙ place-at (length before) shorter
+
+  -- the rows with a lower place stand before it
+  lower-before : (e : Row) → placeOf e < placeOf row → List·Memᴰ e before
+  lower-before e h =
+      let k : placeOf e < length before = subst (λ n. placeOf e < n) place-is h in
+      subst (λ r. List·Memᴰ r before)
+      (sym (List·getD-append before (row ∷ after) lengths (placeOf e) k) ∙ (ap (λ r. getD r (placeOf e) lengths) (sym split) ∙ at-place e))
+      (member-at before (placeOf e) lengths k)
+
+-- ---- the cascade's number and the rows
+module _ (l room : List Float) where
+  fails : (row : Row) → holds row l room ≡ false → Applies row l room → ⊥
+  fails row h a = false≢true (sym h ∙ holds-applies row l room .1 a)
+
+  first-row : (r : Leads l room table) → First (r .row) l room
+  first-row r = record {
+    applies = holds-applies (r .row) l room .0 (r .holding);
+    noneBefore = λ e h. unfold NoneOf in fails e (r .none e (lower-before (r .before) (r .row) (r .after) (r .split) e h));
+  }
+
+  no-row : Passes l room table → NoRow l room
+  unfolding NoneOf
+  no-row p row a = fails row (p .none row (in-table row)) a
+
+  -- two rows that are both first are the same place
+  one-first : (a b : Row) → First a l room → First b l room → placeOf a ≡ placeOf b
+  one-first a b fa fb = go (ltb (placeOf a) (placeOf b)) (ltb (placeOf b) (placeOf a)) refl refl
+    where
+      go : (x y : Bool) → ltb (placeOf a) (placeOf b) ≡ x → ltb (placeOf b) (placeOf a) ≡ y → placeOf a ≡ placeOf b
+      go true y p q = absurd (fb .noneBefore a (ltb-true _ _ p) (fa .applies))
+      go false true p q = absurd (fa .noneBefore b (ltb-true _ _ q) (fb .applies))
+      go false false p q = omega (arith, ltb-false (placeOf a) (placeOf b) p, ltb-false (placeOf b) (placeOf a) q)
+
+  same-row : (a b : Row) → placeOf a ≡ placeOf b → a ≡ b
+  same-row a b h = sym (at-place a) ∙ (ap (λ i. getD table i lengths) h ∙ at-place b)
+
+  nonzero : (row : Row) → numberOf row ≡ 0 → ⊥
+  nonzero lengths h = omega arith
+  nonzero coordinates h = omega arith
+  nonzero wayToD h = omega arith
+  nonzero dZero h = omega arith
+  nonzero wayToE h = omega arith
+  nonzero eZero h = omega arith
+  nonzero parameter h = omega arith
+  nonzero pairTest h = omega arith
+  nonzero position h = omega arith
+  nonzero area h = omega arith
+
+  by-row : (k : ℕ) → (k ≡ 0 → ⊥) → (refusalOf l room ≡ k) ↔ RefusedBy k l room
+  unfolding refusalOf
+  by-row k nz = (to (search-rows l room table), from (search-rows l room table))
+    where
+      to : Passes l room table ⊎ Leads l room table → firstOf table l room ≡ k → RefusedBy k l room
+      to (inl p) h = absurd (nz (sym h ∙ p .number))
+      to (inr r) h = (r .row, first-row r, sym (r .number) ∙ h)
+
+      from : Passes l room table ⊎ Leads l room table → RefusedBy k l room → firstOf table l room ≡ k
+      from (inl p) f = absurd (no-row p (f .0) (f .1 .applies))
+      from (inr r) f = r .number ∙ (ap numberOf (same-row (r .row) (f .0) (one-first (r .row) (f .0) (first-row r) (f .1))) ∙ f .2)
+
+  by-none : (refusalOf l room ≡ 0) ↔ NoRow l room
+  unfolding refusalOf
+  by-none = (to (search-rows l room table), from (search-rows l room table))
+    where
+      to : Passes l room table ⊎ Leads l room table → firstOf table l room ≡ 0 → NoRow l room
+      to (inl p) h = no-row p
+      to (inr r) h = absurd (nonzero (r .row) (sym (r .number) ∙ h))
+
+      from : Passes l room table ⊎ Leads l room table → NoRow l room → firstOf table l room ≡ 0
+      from (inl p) f = p .number
+      from (inr r) f = absurd (f (r .row) (first-row r .applies))
+
+  -- ---- the whole answer
+  pub refused-is : (refusalOf l room ≡ 0 → ⊥) → wholeOf l room ≡ refused (refusalOf l room) room
+  unfolding wholeOf
+  refused-is h = rw (ne-eqb (refusalOf l room) 0 h) refl
+
+  pub answered-is : refusalOf l room ≡ 0 → wholeOf l room ≡ answered l room
+  unfolding wholeOf
+  answered-is h = rw (eq-eqb (refusalOf l room) 0 h) refl
+
+  pub number-is : wholeOf l room .answer .number ≡ refusalOf l room
+  number-is = go (eqb (refusalOf l room) 0) refl
+    where
+      go : (b : Bool) → eqb (refusalOf l room) 0 ≡ b → wholeOf l room .answer .number ≡ refusalOf l room
+      go true e = let h = eqb-true (refusalOf l room) 0 e in rw (answered-is h) (unfold answered found in sym h)
+      go false e = rw (refused-is (eqb-false (refusalOf l room) 0 e)) refl
+
+  -- each refusal exactly when 01 says
+  pub exactly-when : ExactlyWhen l room
+  exactly-when = record {
+    refusedBy = λ k nz. let b = by-row k nz in (λ h. b .0 (sym number-is ∙ h), λ f. number-is ∙ b .1 f);
+    answered = (λ h. by-none .0 (sym number-is ∙ h), λ f. number-is ∙ by-none .1 f);
+    nothingElse = λ h.
+        let q = refused-is (λ z. h (number-is ∙ z)) in
+        record { n = rw q refl; area = rw q refl; noVertex = rw q refl; noCorner = rw q refl; noNeighbour = rw q refl; room-is = rw q refl };
+  }

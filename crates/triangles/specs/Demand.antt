@@ -1,0 +1,39 @@
+-- Demand 3 of an answer that is no refusal, in its own n, flags and room. Positions may coincide. Statements only.
+use mathlib.Core.Path.{_≡_}
+use mathlib.Core.Logic.{_⊎_}
+use mathlib.Core.Bool.{Bool, true, false}
+use mathlib.Core.List.{List, [], _∷_, map, List·Memᴰ}
+use Prim.Native.Nat.{ℕ, _*_}
+use lib.ListN.{getD, length, take}
+use lib.Ieee.{Float}
+use Rattle.lines.specs.Lines.{three, lowerLine, upperLine}
+use Rattle.lines.specs.Round.{edgesAcross, cornerBy}
+use Rattle.ring.specs.Places.{Place, vertex, corner, crossing}
+use Rattle.ring.specs.Flags.{crossingOn}
+use Rattle.ring.specs.Demand.{NoneOrThreeToSix, Holds, Closed}
+use Rattle.triangles.specs.declared.Answer.{Answer}
+use Rattle.triangles.specs.Pair.{signsBy, ordersBy}
+use Rattle.triangles.specs.Positions.{positionOf, valuesOfCorners}
+use Rattle.triangles.specs.Answers.{Whole, wholeOf}
+
+-- found inside by the answer's own flag, or found on V's edge
+abbrev pub foundIn : List Float → Answer → Place → Bool
+foundIn l a (vertex i) = getD (a .«u_in_v») i false
+foundIn l a (corner k) = getD (a .«v_in_u») k false
+foundIn l a (crossing e b) = crossingOn (signsBy l) (ordersBy l) e b
+
+pub record Demand3 (l room : List Float) : Type 0 where
+  -- each line of V is crossed by none or two edges of U
+  pub noneOrTwo : (a : ℕ) → (edgesAcross (signsBy l) a ≡ 0) ⊎ (edgesAcross (signsBy l) a ≡ 2)
+  -- both lines through a corner of V say the same of it, and the answer's flag is what they say
+  pub lowerSays : (k : ℕ) → List·Memᴰ k three → cornerBy (signsBy l) (ordersBy l) (lowerLine k) (upperLine k) ≡ getD (wholeOf l room .answer .«v_in_u») k false
+  pub upperSays : (k : ℕ) → List·Memᴰ k three → cornerBy (signsBy l) (ordersBy l) (upperLine k) (lowerLine k) ≡ getD (wholeOf l room .answer .«v_in_u») k false
+  -- the ring has no place, or three to six, and n is their number
+  pub size : NoneOrThreeToSix (length (wholeOf l room .ring))
+  pub counted : wholeOf l room .answer .n ≡ length (wholeOf l room .ring)
+  -- each of the fifteen places stands in it exactly once if it was found inside or on an edge, not at all otherwise, and nothing else does
+  pub holds : Holds (foundIn l (wholeOf l room .answer)) (wholeOf l room .ring)
+  -- each place and the next, and the last and the first, lie on a common edge of one triangle
+  pub neighbours : Closed (wholeOf l room .ring)
+  -- the first 2n values of the room are the positions of the ring's places, in order
+  pub positions : take (2 * wholeOf l room .answer .n) (wholeOf l room .room) ≡ valuesOfCorners (map (positionOf l) (wholeOf l room .ring))

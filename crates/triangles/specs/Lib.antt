@@ -1,0 +1,9 @@
+pub mod Pair
+pub mod Positions
+pub mod Refusals
+pub mod Answers
+pub mod Rows
+pub mod Promise
+pub mod Demand
+pub mod Cases
+pub mod Edges

@@ -1,0 +1,89 @@
+-- 01, "Numbers and lines" to "Flags, ring and area", of one pair of triangles: U0x, U0y, .. V2y. Every list has these, of whatever length.
+-- Definitions only.
+use mathlib.Core.Bool.{Bool, true, false}
+use mathlib.Core.List.{List, [], _∷_, _++_, map}
+use Prim.Native.Nat.{ℕ, _+_, _*_}
+use lib.ListN.{getD}
+use lib.Ieee.{Float, nan}
+use Rattle.floats.specs.Numbers.{Point, crossFrom}
+use Rattle.floats.specs.Way.{Way, f64, givenPoint}
+use Rattle.lines.specs.Lines.{three, signsAt}
+use Rattle.lines.specs.declared.Params.{Params}
+use Rattle.lines.specs.Parameters.{Parameters, parameters, carried, valuesOf}
+use Rattle.order.specs.PairTest.{signsOfU, testOn, outcomesOn}
+use Rattle.order.specs.Order.{Decided, decidedOn, ordersOf, orderAt}
+use Rattle.ring.specs.Places.{Place}
+use Rattle.ring.specs.Ring.{ring}
+
+module _ (l : List Float) where
+  -- vertex i of U, and corner k of V
+  abbrev pub vertexOf : ℕ → Point Way
+  vertexOf i = givenPoint (getD l (2 * i) nan) (getD l (2 * i + 1) nan)
+
+  abbrev pub cornerOf : ℕ → Point Way
+  cornerOf k = vertexOf (3 + k)
+
+  -- d = cross of V1 − V0 and V2 − V0; e = cross of U1 − U0 and U2 − U0
+  unfoldable pub dOf : Way
+  dOf = crossFrom f64 (cornerOf 0) (cornerOf 1) (cornerOf 2)
+
+  unfoldable pub eOf : Way
+  eOf = crossFrom f64 (vertexOf 0) (vertexOf 1) (vertexOf 2)
+
+  -- the parameters of vertex i, with every value on their way
+  unfoldable pub parametersOf : ℕ → Parameters Way
+  parametersOf i = parameters f64 (cornerOf 0) (cornerOf 1) (cornerOf 2) (vertexOf i)
+
+  -- the three numbers that vertex i carries
+  unfoldable pub paramsOf : ℕ → Params
+  unfolding parametersOf
+  paramsOf i = valuesOf (parametersOf i)
+
+  -- as the pair tests and positions take them
+  abbrev pub carriedBy : ℕ → Parameters Way
+  carriedBy i = carried (paramsOf i)
+
+  -- the signs of U's vertices
+  unfoldable pub signsOf : List (List Bool)
+  unfolding paramsOf signsOfU
+  signsOf = signsOfU f64 carriedBy
+
+  -- the outcomes of edge e's pair tests, its order, and the pair tests computed to find it
+  unfoldable pub outcomesOf : ℕ → List Bool
+  unfolding paramsOf outcomesOn
+  outcomesOf e = outcomesOn f64 carriedBy e
+
+  unfoldable pub decidedOf : ℕ → Decided
+  unfolding signsOf outcomesOf decidedOn
+  decidedOf e = decidedOn signsOf outcomesOf e
+
+  unfoldable pub ordersOfEdges : List (List ℕ)
+  unfolding signsOf outcomesOf ordersOf
+  ordersOfEdges = ordersOf signsOf outcomesOf
+
+  -- the signs of vertex i, and the order along edge e, as the ring takes them
+  abbrev pub signsBy : ℕ → ℕ → Bool
+  signsBy = signsAt signsOf
+
+  abbrev pub ordersBy : ℕ → List ℕ
+  ordersBy = orderAt ordersOfEdges
+
+  -- the ring's places
+  unfoldable pub ringOf : List Place
+  unfolding signsOf ordersOfEdges ring
+  ringOf = ring signsBy ordersBy
+
+  -- the pair tests computed on edge e, each with its edge
+  unfoldable pub testsOn : ℕ → List (ℕ × (ℕ × ℕ))
+  unfolding decidedOf
+  testsOn e = map (λ t. (e, t)) (decidedOf e .tests)
+
+  -- all pair tests computed: edges 0, 1, 2 in turn
+  unfoldable pub testsOf : List (ℕ × (ℕ × ℕ))
+  unfolding testsOn
+  testsOf = testsOn 0 ++ (testsOn 1 ++ testsOn 2)
+
+  -- the pair test's D
+  unfoldable pub pairTestOf : ℕ × (ℕ × ℕ) → Way
+  unfolding paramsOf
+  pairTestOf t = testOn f64 carriedBy (t .0) (t .1 .0) (t .1 .1)

@@ -1,0 +1,11 @@
+-- What the entry point promises of its result and of the lent room, for all inputs. Statements only.
+use mathlib.Core.Path.{_≡_}
+use mathlib.Core.List.{List}
+use lib.Ieee.{Float}
+use Rattle.triangles.specs.declared.Answer.{Answer}
+use Rattle.triangles.specs.Answers.{Whole, wholeOf}
+
+-- of the values and the room lent, the result and the room afterwards
+pub record Promise (values room : List Float) (result : Answer) (after : List Float) : Type 0 where
+  pub result-is : result ≡ wholeOf values room .answer
+  pub after-is : after ≡ wholeOf values room .room

@@ -1,0 +1,73 @@
+-- The rows of the refusal table as predicates, apart from the tests and their cascade, and when an answer has a number. Statements only.
+use mathlib.Core.Path.{_≡_}
+use mathlib.Core.Logic.{_⊎_, _↔_}
+use mathlib.Core.Bool.{Bool, true, false}
+use mathlib.Core.List.{List, [], _∷_, List·Memᴰ}
+use Prim.Native.Nat.{ℕ, _<_}
+use lib.ListN.{length}
+use lib.Ieee.{Float, eq, binary64, ofBits}
+use Rattle.floats.specs.Finite.{finite, nought}
+use Rattle.triangles.specs.declared.Answer.{Answer}
+use Rattle.triangles.specs.Pair.{dOf, eOf}
+use Rattle.triangles.specs.Refusals.{Row, lengths, coordinates, wayToD, dZero, wayToE, eZero, parameter, pairTest, position, area, numberOf, wayOf}
+use Rattle.triangles.specs.Answers.{Whole, wholeOf}
+
+-- one of these values is not finite
+abbrev pub NotFinite : List Float → Type 0
+NotFinite vs = (v : Float) × List·Memᴰ v vs × (finite v ≡ false)
+
+-- the row applies to the input l and the room
+abbrev pub Applies : Row → List Float → List Float → Type 0
+Applies lengths l room = (length l ≡ 12 → ⊥) ⊎ (length room < 12)
+Applies coordinates l room = NotFinite l
+Applies wayToD l room = NotFinite (wayOf wayToD l)
+Applies dZero l room = eq (dOf l .value) nought ≡ true
+Applies wayToE l room = NotFinite (wayOf wayToE l)
+Applies eZero l room = eq (eOf l .value) nought ≡ true
+Applies parameter l room = NotFinite (wayOf parameter l)
+Applies pairTest l room = NotFinite (wayOf pairTest l)
+Applies position l room = NotFinite (wayOf position l)
+Applies area l room = NotFinite (wayOf area l)
+
+-- the row's place in the table, from 0
+abbrev pub placeOf : Row → ℕ
+placeOf lengths = 0
+placeOf coordinates = 1
+placeOf wayToD = 2
+placeOf dZero = 3
+placeOf wayToE = 4
+placeOf eZero = 5
+placeOf parameter = 6
+placeOf pairTest = 7
+placeOf position = 8
+placeOf area = 9
+
+-- the row applies and no earlier row does
+pub record First (row : Row) (l room : List Float) : Type 0 where
+  pub applies : Applies row l room
+  pub noneBefore : (earlier : Row) → placeOf earlier < placeOf row → Applies earlier l room → ⊥
+
+-- a row with this number is the first that applies
+abbrev pub RefusedBy : ℕ → List Float → List Float → Type 0
+RefusedBy k l room = (row : Row) × First row l room × (numberOf row ≡ k)
+
+-- no row applies
+abbrev pub NoRow : List Float → List Float → Type 0
+NoRow l room = (row : Row) → Applies row l room → ⊥
+
+-- zeros beside the number, and the room as it was lent
+pub record Untouched (w : Whole) (room : List Float) : Type 0 where
+  pub n : w .answer .n ≡ 0
+  pub area : w .answer .area ≡ ofBits binary64 0
+  pub noVertex : w .answer .«u_in_v» ≡ false ∷ false ∷ false ∷ []
+  pub noCorner : w .answer .«v_in_u» ≡ false ∷ false ∷ false ∷ []
+  pub noNeighbour : w .answer .neighbour ≡ false ∷ false ∷ false ∷ []
+  pub room-is : w .room ≡ room
+
+pub record ExactlyWhen (l room : List Float) : Type 0 where
+  -- the answer has the refusal's number k exactly if a row with that number applies and no earlier row does
+  pub refusedBy : (k : ℕ) → (k ≡ 0 → ⊥) → (wholeOf l room .answer .number ≡ k) ↔ RefusedBy k l room
+  -- and number 0 exactly if no row applies
+  pub answered : (wholeOf l room .answer .number ≡ 0) ↔ NoRow l room
+  -- a refused answer has n = 0, area 0.0, no flags and the room unchanged
+  pub nothingElse : (wholeOf l room .answer .number ≡ 0 → ⊥) → Untouched (wholeOf l room) room

@@ -1,0 +1,12 @@
+// The answer of two triangles.
+
+// What the rules answer: number 0, or a refusal's number with everything else zero; the ring's n corners stand in the lent room.
+#[repr(C)]
+pub struct Answer {
+    pub number: u32,
+    pub n: u32,
+    pub area: f64,
+    pub u_in_v: [bool; 3],
+    pub v_in_u: [bool; 3],
+    pub neighbour: [bool; 3],
+}
