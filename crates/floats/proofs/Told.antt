@@ -1,4 +1,4 @@
--- Only a quotient turns a value that is not finite into a finite one. So a value made of sums, differences, products and negations alone is
+-- Of all operations only a quotient can hide an infinity or a NaN behind a finite result. So a value made of sums, differences, products and negations alone is
 -- finite exactly if every value on its way is: its last value tells. Assumes nothing.
 use mathlib.Core.Path.{_≡_, refl, sym, ap, ap₂, _∙_}
 use mathlib.Core.Bool.{Bool, true, false, _&&_, cond, and-true, and-false, false≢true}

@@ -2,7 +2,7 @@
 -- The rules are written once over these operations. f64 that keeps every value on the way is one instance (`Way`).
 use mathlib.Core.Bool.{Bool}
 
--- numbers as the rules use them; `isFine` tells whether every value on the way to one is finite
+-- what the rules ask of numbers: two operations, negation, and four comparisons with zero (≥, ≤, <, =)
 pub record Numbers : Type 1 where
   pub N : Type 0
   pub minus : N → N → N
@@ -12,7 +12,6 @@ pub record Numbers : Type 1 where
   pub isAtMostZero : N → Bool
   pub isBelowZero : N → Bool
   pub isZero : N → Bool
-  pub isFine : N → Bool
 
 -- a point of the plane, or the difference of two
 pub record Point (N : Type 0) : Type 0 where
@@ -20,11 +19,11 @@ pub record Point (N : Type 0) : Type 0 where
   pub y : N
 
 module _ (K : Numbers) where
-  -- the cross of (p,q) and (r,s) is p·s − q·r
+  -- of (p,q) and (r,s): p·s − q·r
   abbrev pub cross : K .N → K .N → K .N → K .N → K .N
   cross p q r s = K .minus (K .times p s) (K .times q r)
 
-  -- differences are taken per component
+  -- b − a, each component by itself
   abbrev pub minusPoint : Point (K .N) → Point (K .N) → Point (K .N)
   minusPoint b a = record { x = K .minus (b .x) (a .x); y = K .minus (b .y) (a .y) }
 

@@ -1,4 +1,4 @@
--- 01, "Numbers and lines": every operation is one f64 operation, rounded once, and its result is kept as a value on the way. Definitions only.
+-- 01, "Numbers and lines": f64 operations, each rounded once, with the result of each kept as a value on the way. Definitions only.
 use mathlib.Core.Bool.{Bool, true, false, cond}
 use mathlib.Core.List.{List, [], _∷_, _++_}
 use lib.Ieee.{Float, binary64, add, sub, mul, div, neg, lt, le, eq}
@@ -42,7 +42,7 @@ negated a = step (neg (a .value)) (a .way)
 abbrev pub fine : Way → Bool
 fine a = all finite (a .way)
 
--- f64, with every value on the way. Zero is plus, negative zero too: ≥ of f64 says so
+-- f64, with every value on the way. Its ≥ holds of both zeros, so either zero is plus
 abbrev pub f64 : Numbers
 f64 = record {
   N = Way;
@@ -53,7 +53,6 @@ f64 = record {
   isAtMostZero = λ a. le (a .value) nought;
   isBelowZero = λ a. lt (a .value) nought;
   isZero = λ a. eq (a .value) nought;
-  isFine = fine;
 }
 
 abbrev pub givenPoint : Float → Float → Point Way

@@ -13,7 +13,7 @@ pub fn is_finite(x: f64) -> bool
     low < x && x < top
 }
 
-// The cross of (p,q) and (r,s), each operation rounded once.
+// p·s − q·r, three operations, each rounded once.
 pub fn cross_of(p: f64, q: f64, r: f64, s: f64) -> f64
     ensures { λ c. ⌜ c ≡ cross f64 (given p) (given q) (given r) (given s) .value ⌝ }
 {

@@ -6,7 +6,7 @@ use lib.Dec.{eqb}
 use Rattle.floats.specs.Lists.{all, any, filter, count, differ}
 use Rattle.lines.specs.Lines.{lines}
 
--- an edge crosses a line exactly if its ends have different signs there
+-- an edge from the signs p to the signs q crosses line a: the two signs on it are not the same
 abbrev pub crosses : (ℕ → Bool) → (ℕ → Bool) → ℕ → Bool
 crosses p q a = differ (p a) (q a)
 
@@ -45,7 +45,7 @@ unfolding flip
 walk e s [] = []
 walk e s (a ∷ o) = record { edge = e; line = a; signs = s } ∷ walk e (flip a s) o
 
--- the crossing lies on V's edge if all other signs are plus
+-- a crossing is on V's edge where it is plus on every line but its own
 unfoldable pub onEdge : ℕ → Crossing → Bool
 unfolding all lines
 onEdge n c = all (λ b. eqb (c .line) b || (c .signs) b) (lines n)
@@ -55,7 +55,7 @@ unfoldable pub somePlus : ℕ → (ℕ → Bool) → Bool
 unfolding any lines
 somePlus n s = any s (lines n)
 
--- an order is admissible, walked from the signs s, if no stretch is minus on all lines
+-- an order, walked from the signs s, is admissible: each stretch of it is plus on some line
 unfoldable pub admissible : ℕ → (ℕ → Bool) → List ℕ → Bool
 unfolding somePlus flip
 admissible n s [] = somePlus n s

@@ -18,7 +18,7 @@ lines n = upFrom 0 n
 abbrev pub three : List ℕ
 three = 0 ∷ 1 ∷ 2 ∷ []
 
--- V's corner at x,y is V0, at y,w is V1, at x,w is V2: a table from two lines to the corner, of no meaning where the two are one
+-- the corner of V on two lines, as a table: row a, column b. V0 is on x and y, V1 on y and w, V2 on x and w; the diagonal has no meaning
 abbrev pub cornerTable : List (List ℕ)
 cornerTable = (0 ∷ 0 ∷ 2 ∷ []) ∷ (0 ∷ 1 ∷ 1 ∷ []) ∷ (2 ∷ 1 ∷ 2 ∷ []) ∷ []
 
@@ -35,7 +35,7 @@ lowerLine k = getD (getD lineTable k []) 0 0
 abbrev pub upperLine : ℕ → ℕ
 upperLine k = getD (getD lineTable k []) 1 0
 
--- edge 0 of U runs from U0 to U1, edge 1 from U1 to U2, edge 2 from U2 to U0
+-- the two ends of U's edges, in the direction of the walk round U: 0 to 1, 1 to 2, 2 to 0
 abbrev pub endTable : List (List ℕ)
 endTable = (0 ∷ 1 ∷ []) ∷ (1 ∷ 2 ∷ []) ∷ (2 ∷ 0 ∷ []) ∷ []
 

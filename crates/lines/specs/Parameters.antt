@@ -18,23 +18,30 @@ pub record Parameters (N : Type 0) : Type 0 where
 abbrev pub parameter : {N : Type 0} → Parameters N → ℕ → N
 parameter p a = cond (eqb a 0) (p .x) (cond (eqb a 1) (p .y) (p .w))
 
--- the signs of a vertex from those of its parameters on all lines but the last, and on the last:
--- if all others are minus, the last counts as plus unseen
+-- the signs of a vertex, from the signs of its parameters on all lines but the last, and on the last. Where all the others are minus,
+-- the last one is not looked at and is plus
 unfoldable pub unseen : List Bool → Bool → List Bool
 unfolding any
 unseen others last = others ++ ((not (any (λ s. s) others) || last) ∷ [])
 
 module _ (K : Numbers) where
-  -- with r = U − V0: x is the cross of r and V2 − V0, y that of V1 − V0 and r. If d < 0, then d, x and y are negated. w = (d − x) − y
+  -- d of V's corners, and e of U's vertices: the cross of the differences of the second and the third from the first
+  abbrev pub dOf : Point (K .N) → Point (K .N) → Point (K .N) → K .N
+  dOf v0 v1 v2 = crossFrom K v0 v1 v2
+
+  abbrev pub eOf : Point (K .N) → Point (K .N) → Point (K .N) → K .N
+  eOf u0 u1 u2 = crossFrom K u0 u1 u2
+
+  -- x puts u in the place of V1 in d, y in the place of V2; a negative d turns the signs of all three. w is what x and y leave of d
   abbrev pub parameters : Point (K .N) → Point (K .N) → Point (K .N) → Point (K .N) → Parameters (K .N)
   parameters v0 v1 v2 u =
-      let d = crossFrom K v0 v1 v2 in
+      let d = dOf v0 v1 v2 in
       let turned : K .N → K .N = λ v. cond (K .isBelowZero d) (K .negate v) v in
       let x = turned (crossFrom K v0 u v2) in
       let y = turned (crossFrom K v0 v1 u) in
       record { x = x; y = y; w = K .minus (K .minus (turned d) x) y }
 
-  -- plus if it is ≥ 0, else minus; if x and y are both minus, w counts as plus unseen
+  -- a parameter that is ≥ 0 is plus, any other minus, with line 2 unseen where lines 0 and 1 are minus
   unfoldable pub signs : Parameters (K .N) → List Bool
   unfolding unseen
   signs p = unseen (K .isPlus (p .x) ∷ K .isPlus (p .y) ∷ []) (K .isPlus (p .w))

@@ -33,7 +33,7 @@ module _ (u : ℕ → ℕ → Bool) (o : ℕ → List ℕ) where
   unfolding filter crossings
   hits a = filter (λ c. eqb a (c .line)) crossings
 
-  -- by line a, V's corner on lines a and b is in U: line a has two crossings and their signs on b differ
+  -- what line a says of V's corner on a and b: it is in U where a's two crossings stand on different sides of b
   unfoldable pub cornerBy : ℕ → ℕ → Bool
   unfolding apart hits
   cornerBy a b = apart b (hits a)

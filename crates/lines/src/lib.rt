@@ -9,7 +9,7 @@ pub struct Params {
     pub w: f64,
 }
 
-// The vertex's signs on the three lines, plus being true; if x and y are both minus, w counts as plus unseen.
+// The vertex's signs on the three lines, plus being true. A vertex that is minus on lines 0 and 1 is plus on line 2, whatever w is.
 pub fn signs_of(p: Params) -> [bool; 3]
     ensures { λ r. ⌜ r ≡ signsOf p ⌝ }
 {

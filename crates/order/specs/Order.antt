@@ -37,8 +37,8 @@ unfoldable pub admissibleOrders : ℕ → (ℕ → Bool) → (ℕ → Bool) → 
 unfolding filter arrangements admissible crossed
 admissibleOrders n p q = filter (admissible n p) (arrangements (crossed n p q))
 
--- line a is met before line b, by the outcomes t: the pair test names the lower line first and walks from the end with the lower number.
--- Walked from the other end (back) the order is reversed
+-- line a is met before line b, by the outcomes t. A pair test speaks of the lower line and as seen from the lower vertex, so its word is
+-- turned where a is the higher line, and where the walk goes back from the higher vertex
 unfoldable pub before : List Bool → Bool → ℕ → ℕ → Bool
 before t back a b = differ back (differ (ltb b a) (getD t (cornerOn a b) false))
 
@@ -46,7 +46,7 @@ before t back a b = differ back (differ (ltb b a) (getD t (cornerOn a b) false))
 abbrev pub pairOf : ℕ → ℕ → ℕ × ℕ
 pairOf a b = (min a b, max a b)
 
--- two lines crossed, from the signs s: if one order only is admissible, it holds and D is not computed. Otherwise the pair test decides
+-- two lines crossed, from the signs s: where just one order is admissible it is taken, with no pair test; else the pair test is asked
 unfoldable pub two : (ℕ → ℕ → Bool) → (ℕ → Bool) → ℕ → ℕ → Decided
 unfolding admissible
 two first s a b =
@@ -56,8 +56,8 @@ two first s a b =
     (cond (ba && not ab) (decided (b ∷ a ∷ []) [])
     (cond (first a b) (decided (a ∷ b ∷ []) (pairOf a b ∷ [])) (decided (b ∷ a ∷ []) (pairOf a b ∷ []))))
 
--- three lines crossed, walked from the end where c alone is minus, a < b the others: test a against c; if a comes first the order is a, c, b.
--- Otherwise test b against c; if b comes first it is b, c, a. Otherwise c is first and the test of a against b gives the rest
+-- three lines crossed, seen from a vertex that is minus on c alone, with a < b the two others. Is a before c, then c lies between a and b.
+-- If not, is b before c, then c lies between them again, from b. If neither is, c leads, and only then a and b are told apart
 unfoldable pub around : (ℕ → ℕ → Bool) → ℕ → ℕ → ℕ → Decided
 around first c a b =
     cond (first a c) (decided (a ∷ c ∷ b ∷ []) (pairOf a c ∷ []))
@@ -77,11 +77,11 @@ unfoldable pub fromEnd : (ℕ → ℕ → Bool) → (ℕ → Bool) → Decided
 unfolding around minusOf plusOf
 fromEnd first s = around first (getD (minusOf s) 0 0) (getD (plusOf s) 0 0) (getD (plusOf s) 1 0)
 
--- walked from the other end the order is reversed
+-- seen from the other end
 abbrev pub turned : Decided → Decided
 turned d = decided (reverse (d .order)) (d .tests)
 
--- three lines crossed: walk from the end with one minus
+-- of the two ends one is minus on one line and one on two: start at the first kind
 unfoldable pub threeLines : List Bool → Bool → (ℕ → Bool) → (ℕ → Bool) → Decided
 unfolding fromEnd minusOf before
 threeLines t back p q = cond (eqb (length (minusOf p)) 1) (fromEnd (before t back) p) (turned (fromEnd (before t (not back)) q))

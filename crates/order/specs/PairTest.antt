@@ -8,11 +8,11 @@ use Rattle.lines.specs.Lines.{three, sign, start, finish, lowerLine, upperLine}
 use Rattle.lines.specs.Parameters.{Parameters, parameter, signs}
 
 module _ (K : Numbers) where
-  -- for lines a < b on the edge from Ui to Uj, i < j, with the parameters p and q: D = a_i·b_j − a_j·b_i
+  -- D of the lines a < b between two vertices, p the one with the lower number: a_i·b_j − a_j·b_i
   abbrev pub pairD : Parameters (K .N) → Parameters (K .N) → ℕ → ℕ → K .N
   pairD p q a b = cross K (parameter p a) (parameter q a) (parameter p b) (parameter q b)
 
-  -- line a is met first: if a and b have the same sign at Ui exactly if D ≥ 0, if they differ there exactly if D ≤ 0
+  -- a is met before b, seen from the lower vertex: where it has one sign on both lines that is D ≥ 0, where it has two it is D ≤ 0
   unfoldable pub metFirst : Parameters (K .N) → Parameters (K .N) → ℕ → ℕ → Bool
   unfolding signs
   metFirst p q a b =
@@ -23,7 +23,7 @@ module _ (K : Numbers) where
   unfolding signs
   signsOfU ps = map (λ i. signs K (ps i)) three
 
-  -- the pair test of lines a < b on edge e, taken from its end with the lower number
+  -- the pair test of lines a < b on edge e: whichever way the edge runs, its lower vertex comes first
   abbrev pub testOn : (ℕ → Parameters (K .N)) → ℕ → ℕ → ℕ → K .N
   testOn ps e a b = pairD (ps (min (start e) (finish e))) (ps (max (start e) (finish e))) a b
 

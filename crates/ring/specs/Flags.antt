@@ -10,12 +10,12 @@ use Rattle.lines.specs.Round.{crossingsOf, crossings, cornerBy}
 use Rattle.ring.specs.Places.{Place, vertex, corner, crossing, onLine}
 
 module _ (u : ℕ → ℕ → Bool) (o : ℕ → List ℕ) where
-  -- Ui is in V if all its signs are plus
+  -- vertex i is in V: plus on all three lines
   unfoldable pub vertexIn : ℕ → Bool
   unfolding all lines
   vertexIn i = all (u i) (lines 3)
 
-  -- V's corner on lines a and b is in U if line a has two crossings and their signs on b differ; line b gives the same (`Agrees`)
+  -- corner k is in U, as its lower line says; that its upper line says the same is a theorem (`Agrees`) and no test
   unfoldable pub cornerIn : ℕ → Bool
   unfolding cornerBy
   cornerIn k = cornerBy u o (lowerLine k) (upperLine k)
@@ -25,7 +25,7 @@ module _ (u : ℕ → ℕ → Bool) (o : ℕ → List ℕ) where
   unfolding any crossingsOf onEdge
   crossingOn e a = any (λ c. eqb a (c .line) && onEdge 3 c) (crossingsOf u o e)
 
-  -- neighbour flag of V's edge a: set if a crossing lies on it, or one of its end corners is in U
+  -- the neighbour flag of V's edge a: some edge of U crosses it there, or a corner at one of its ends is in U
   unfoldable pub neighbour : ℕ → Bool
   unfolding any crossingOn cornerIn
   neighbour a = any (λ e. crossingOn e a) three || any (λ k. onLine a k && cornerIn k) three

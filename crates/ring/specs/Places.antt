@@ -30,7 +30,7 @@ fifteen = map vertex three ++ (map corner three ++ (map (crossing 0) three ++ (m
 abbrev pub onLine : ℕ → ℕ → Bool
 onLine a k = eqb a (lowerLine k) || eqb a (upperLine k)
 
--- an edge of one of the two triangles; an edge of V has its line's number
+-- an edge of one of the two triangles, V's edge on line a being number a
 pub data Side : Type 0 where
   ofU ofV : ℕ → Side
 

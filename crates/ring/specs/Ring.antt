@@ -26,16 +26,18 @@ entered d (inside i ∷ m) = entered d m
 entered d (leave e a ∷ m) = entered d m
 entered d (enter e a ∷ m) = a
 
--- V's corners cs that are in U, inserted where V is left by line a and next entered by another: one alone, or, of two, first the one on line a
+-- V's corners cs that are in U, as they are inserted after V was left by line a: those on line a lead
 unfoldable pub inserted : List ℕ → ℕ → List ℕ
 unfolding filter
 inserted cs a = filter (onLine a) cs ++ filter (λ k. not (onLine a k)) cs
 
+-- between leaving V by line a and entering it again by line b: nothing where the two are one line, else the corners
 unfoldable pub gap : List ℕ → ℕ → ℕ → List Place
 unfolding inserted
 gap cs a b = cond (eqb a b) [] (map corner (inserted cs a))
 
--- what was met, in order, with the corners right after the crossing left by. The walk is closed: it goes on with `again`, its own beginning
+-- what was met, in its order, each crossing where V is left followed by its gap. The walk is closed: past its end it goes on with `again`,
+-- its own beginning
 unfoldable pub build : List ℕ → List Met → List Met → List Place
 unfolding gap entered
 build cs again [] = []
@@ -44,7 +46,7 @@ build cs again (leave e a ∷ m) = crossing e a ∷ (gap cs a (entered a (m ++ a
 build cs again (enter e a ∷ m) = crossing e a ∷ build cs again m
 
 module _ (u : ℕ → ℕ → Bool) (o : ℕ → List ℕ) where
-  -- each vertex in V and each crossing on V's edge, as met
+  -- on the way along edge e: its start, where that is in V, and then its crossings on V's edge
   unfoldable pub metOn : ℕ → List Met
   unfolding vertexIn filter onEdge crossingsOf
   metOn e = cond (vertexIn u o (start e)) (inside (start e) ∷ []) [] ++ map metAt (filter (onEdge 3) (crossingsOf u o e))
@@ -53,7 +55,7 @@ module _ (u : ℕ → ℕ → Bool) (o : ℕ → List ℕ) where
   unfolding metOn
   met = metOn 0 ++ (metOn 1 ++ metOn 2)
 
-  -- if nothing was met and V's corners are in U, the ring is V0, V1, V2
+  -- a walk that met nothing has V's three corners for its ring if they are in U, and otherwise no ring
   unfoldable pub closed : List Met → List Place
   unfolding all filter cornerIn build
   closed [] = cond (all (cornerIn u o) three) (map corner three) []

@@ -1,4 +1,4 @@
--- No second answer fits: two results and two rooms that both meet the promise are equal, for all inputs. Assumes nothing.
+-- No second answer fits: whatever meets the promise, result and room, is what else meets it, for all inputs. Assumes nothing.
 use mathlib.Core.Path.{_≡_, sym, _∙_}
 use mathlib.Core.List.{List}
 use lib.Ieee.{Float}

@@ -23,11 +23,11 @@ pub record Whole : Type 0 where
 abbrev pub noFlags : List Bool
 noFlags = false ∷ false ∷ false ∷ []
 
--- every refusal returns its number, n = 0, area 0.0, no flags
+-- a refusal: its number, and zeros
 abbrev pub refusal : ℕ → Answer
 refusal k = record { number = k; n = 0; area = nought; «u_in_v» = noFlags; «v_in_u» = noFlags; neighbour = noFlags }
 
--- .. and the output room is as before
+-- with the room as it was lent
 abbrev pub refused : ℕ → List Float → Whole
 refused k room = record { answer = refusal k; room = room; ring = []; tests = [] }
 
@@ -43,7 +43,7 @@ found l = record {
   neighbour = neighbours (signsBy l) (ordersBy l);
 }
 
--- an answer writes the 2n corner values first and leaves the rest
+-- the corners' values stand at the front of the room, and what lies beyond them is as it was
 unfoldable pub written : List Float → List Float → List Float
 written values room = values ++ drop (length values) room
 

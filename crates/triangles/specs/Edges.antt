@@ -110,7 +110,7 @@ threeLines = record {
   tests = 4;
 }
 
--- at a tie the answer can turn on the order in which U's vertices are listed
+-- a tie: D is zero on edge 1, and there is no ring
 abbrev tieOneWay : Case
 tieOneWay = record {
   values = bits (0xbff0000000000000 ∷ 0xbff0000000000000 ∷ 0x3ff0000000000000 ∷ 0xbff0000000000000 ∷ 0xbff0000000000000 ∷ 0x3ff0000000000000
@@ -125,7 +125,7 @@ tieOneWay = record {
   tests = 1;
 }
 
--- .. as here, with the last two exchanged
+-- the same tie with U1 and U2 exchanged: the other line is met first, and there is a ring
 abbrev tieOtherWay : Case
 tieOtherWay = record {
   values = bits (0xbff0000000000000 ∷ 0xbff0000000000000 ∷ 0xbff0000000000000 ∷ 0x3ff0000000000000 ∷ 0x3ff0000000000000 ∷ 0xbff0000000000000

@@ -5,11 +5,11 @@ use mathlib.Core.List.{List, [], _∷_, _++_, map}
 use Prim.Native.Nat.{ℕ, _+_, _*_}
 use lib.ListN.{getD}
 use lib.Ieee.{Float, nan}
-use Rattle.floats.specs.Numbers.{Point, crossFrom}
+use Rattle.floats.specs.Numbers.{Point}
 use Rattle.floats.specs.Way.{Way, f64, givenPoint}
 use Rattle.lines.specs.Lines.{three, signsAt}
 use Rattle.lines.specs.declared.Params.{Params}
-use Rattle.lines.specs.Parameters.{Parameters, parameters, carried, valuesOf}
+use Rattle.lines.specs.Parameters.{Parameters, dOf, eOf, parameters, carried, valuesOf}
 use Rattle.order.specs.PairTest.{signsOfU, testOn, outcomesOn}
 use Rattle.order.specs.Order.{Decided, decidedOn, ordersOf, orderAt}
 use Rattle.ring.specs.Places.{Place}
@@ -23,12 +23,12 @@ module _ (l : List Float) where
   abbrev pub cornerOf : ℕ → Point Way
   cornerOf k = vertexOf (3 + k)
 
-  -- d = cross of V1 − V0 and V2 − V0; e = cross of U1 − U0 and U2 − U0
-  unfoldable pub dOf : Way
-  dOf = crossFrom f64 (cornerOf 0) (cornerOf 1) (cornerOf 2)
+  -- d and e, with every value on their way
+  unfoldable pub d : Way
+  d = dOf f64 (cornerOf 0) (cornerOf 1) (cornerOf 2)
 
-  unfoldable pub eOf : Way
-  eOf = crossFrom f64 (vertexOf 0) (vertexOf 1) (vertexOf 2)
+  unfoldable pub e : Way
+  e = eOf f64 (vertexOf 0) (vertexOf 1) (vertexOf 2)
 
   -- the parameters of vertex i, with every value on their way
   unfoldable pub parametersOf : ℕ → Parameters Way

@@ -12,28 +12,28 @@ use Rattle.lines.specs.Parameters.{Parameters, parameter}
 use Rattle.ring.specs.Places.{Place, vertex, corner, crossing}
 use Rattle.triangles.specs.Pair.{vertexOf, cornerOf, paramsOf, carriedBy, signsOf, signsBy, ringOf}
 
--- t = a_P / (a_P − a_Q)
+-- how far the crossing lies from P towards Q, by its line's parameter at either: a_P / (a_P − a_Q)
 abbrev pub fraction : Way → Way → Way
 fraction aP aQ = aP ⊘ (aP ⊖ aQ)
 
--- each component is P + t·(Q − P)
+-- P + t·(Q − P), each component by itself
 abbrev pub between : Way → Point Way → Point Way → Point Way
 between t P Q = record { x = P .x ⊕ (t ⊗ (Q .x ⊖ P .x)); y = P .y ⊕ (t ⊗ (Q .y ⊖ P .y)) }
 
 module _ (l : List Float) where
-  -- line a is crossed between P = Ui, the end with plus, and Q = Uj
+  -- where line a is crossed between vertex i, which is plus on it, and vertex j
   unfoldable pub crossingAt : ℕ → ℕ → ℕ → Point Way
   unfolding paramsOf
   crossingAt a i j = between (fraction (parameter (carriedBy l i) a) (parameter (carriedBy l j) a)) (vertexOf l i) (vertexOf l j)
 
-  -- vertices and corners are copied; for a crossing of line a, P is the end with plus, Q the other
+  -- a vertex and a corner stand where the input has them; a crossing is reckoned from the end of its edge that is plus on its line
   unfoldable pub positionOf : Place → Point Way
   unfolding signsOf crossingAt
   positionOf (vertex i) = vertexOf l i
   positionOf (corner k) = cornerOf l k
   positionOf (crossing e a) = cond (signsBy l (start e) a) (crossingAt a (start e) (finish e)) (crossingAt a (finish e) (start e))
 
-  -- only crossings in the ring get a position
+  -- the corners' positions: of the ring's places, and of no other crossing
   unfoldable pub cornersOf : List (Point Way)
   unfolding ringOf positionOf
   cornersOf = map positionOf (ringOf l)
@@ -47,7 +47,7 @@ valuesOfCorners (c ∷ cs) = c .x .value ∷ c .y .value ∷ valuesOfCorners cs
 abbrev pub cornerAt : List (Point Way) → ℕ → Point Way
 cornerAt cs k = let c = getD cs k (givenPoint nan nan) in givenPoint (c .x .value) (c .y .value)
 
--- from 0.0 add for k = 1 to m the cross of c_k − c_0 and c_(k+1) − c_0
+-- the sum of m crosses, each of the next two corners seen from corner 0, added one by one to 0.0
 unfoldable pub sumTo : List (Point Way) → ℕ → Way
 sumTo cs zero = given nought
 sumTo cs (suc m) = sumTo cs m ⊕ crossFrom f64 (cornerAt cs 0) (cornerAt cs (m + 1)) (cornerAt cs (m + 2))
@@ -55,7 +55,7 @@ sumTo cs (suc m) = sumTo cs m ⊕ crossFrom f64 (cornerAt cs 0) (cornerAt cs (m 
 abbrev pub half : Float
 half = ofBits binary64 0x3fe0_0000_0000_0000
 
--- with n corners: half the sum up to n − 2, or half its negation if it is below zero. No corners: 0.0
+-- half of the sum over all corners, which n corners make n − 2 crosses, with its sign turned where it is negative; 0.0 without corners
 unfoldable pub areaOf : List (Point Way) → Way
 unfolding sumTo
 areaOf [] = given nought

@@ -10,7 +10,7 @@ use Rattle.floats.specs.Finite.{finite}
 use Rattle.floats.specs.Numbers.{Numbers, Point}
 use Rattle.floats.specs.Way.{Way, f64}
 use Rattle.lines.specs.Parameters.{Parameters}
-use Rattle.triangles.specs.Pair.{dOf, eOf, parametersOf, testsOf, pairTestOf}
+use Rattle.triangles.specs.Pair.{d, e, parametersOf, testsOf, pairTestOf}
 use Rattle.triangles.specs.Positions.{cornersOf, areaOf}
 
 -- the rows of the table; the last one's four stages are rows of their own, in that order
@@ -47,12 +47,12 @@ wayToPositions (c ∷ cs) = (c .x .way ++ c .y .way) ++ wayToPositions cs
 
 -- the values on the way that a row looks at: those of all three vertices; of the pair tests computed; of the corners in the ring; of the area
 unfoldable pub wayOf : Row → List Float → List Float
-unfolding dOf eOf parametersOf testsOf wayToTests cornersOf wayToPositions areaOf
+unfolding d e parametersOf testsOf wayToTests cornersOf wayToPositions areaOf
 wayOf lengths l = []
 wayOf coordinates l = l
-wayOf wayToD l = dOf l .way
+wayOf wayToD l = d l .way
 wayOf dZero l = []
-wayOf wayToE l = eOf l .way
+wayOf wayToE l = e l .way
 wayOf eZero l = []
 wayOf parameter l = wayToParameters (parametersOf l 0) ++ (wayToParameters (parametersOf l 1) ++ wayToParameters (parametersOf l 2))
 wayOf pairTest l = wayToTests l (testsOf l)
@@ -64,13 +64,13 @@ notAllFinite vs = not (all finite vs)
 
 -- the row's test, of the input and the room
 unfoldable pub holds : Row → List Float → List Float → Bool
-unfolding all wayOf dOf eOf
+unfolding all wayOf d e
 holds lengths l room = not (eqb (length l) 12) || ltb (length room) 12
 holds coordinates l room = notAllFinite (wayOf coordinates l)
 holds wayToD l room = notAllFinite (wayOf wayToD l)
-holds dZero l room = f64 .isZero (dOf l)
+holds dZero l room = f64 .isZero (d l)
 holds wayToE l room = notAllFinite (wayOf wayToE l)
-holds eZero l room = f64 .isZero (eOf l)
+holds eZero l room = f64 .isZero (e l)
 holds parameter l room = notAllFinite (wayOf parameter l)
 holds pairTest l room = notAllFinite (wayOf pairTest l)
 holds position l room = notAllFinite (wayOf position l)

@@ -8,7 +8,7 @@ use lib.ListN.{length}
 use lib.Ieee.{Float, eq, binary64, ofBits}
 use Rattle.floats.specs.Finite.{finite, nought}
 use Rattle.triangles.specs.declared.Answer.{Answer}
-use Rattle.triangles.specs.Pair.{dOf, eOf}
+use Rattle.triangles.specs.Pair.{d, e}
 use Rattle.triangles.specs.Refusals.{Row, lengths, coordinates, wayToD, dZero, wayToE, eZero, parameter, pairTest, position, area, numberOf, wayOf}
 use Rattle.triangles.specs.Answers.{Whole, wholeOf}
 
@@ -21,9 +21,9 @@ abbrev pub Applies : Row → List Float → List Float → Type 0
 Applies lengths l room = (length l ≡ 12 → ⊥) ⊎ (length room < 12)
 Applies coordinates l room = NotFinite l
 Applies wayToD l room = NotFinite (wayOf wayToD l)
-Applies dZero l room = eq (dOf l .value) nought ≡ true
+Applies dZero l room = eq (d l .value) nought ≡ true
 Applies wayToE l room = NotFinite (wayOf wayToE l)
-Applies eZero l room = eq (eOf l .value) nought ≡ true
+Applies eZero l room = eq (e l .value) nought ≡ true
 Applies parameter l room = NotFinite (wayOf parameter l)
 Applies pairTest l room = NotFinite (wayOf pairTest l)
 Applies position l room = NotFinite (wayOf position l)
@@ -69,5 +69,5 @@ pub record ExactlyWhen (l room : List Float) : Type 0 where
   pub refusedBy : (k : ℕ) → (k ≡ 0 → ⊥) → (wholeOf l room .answer .number ≡ k) ↔ RefusedBy k l room
   -- and number 0 exactly if no row applies
   pub answered : (wholeOf l room .answer .number ≡ 0) ↔ NoRow l room
-  -- a refused answer has n = 0, area 0.0, no flags and the room unchanged
+  -- and with a refusal's number come zeros, and the room as it was
   pub nothingElse : (wholeOf l room .answer .number ≡ 0 → ⊥) → Untouched (wholeOf l room) room
