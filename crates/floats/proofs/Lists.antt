@@ -96,3 +96,12 @@ same-list same is [] [] t = refl
 same-list same is [] (b ∷ y) t = absurd t
 same-list same is (a ∷ x) [] t = absurd t
 same-list same is (a ∷ x) (b ∷ y) t = ap₂ _∷_ (is a b (and-l (same a b) (sameList same x y) t)) (same-list same is x y (and-r (same a b) (sameList same x y) t))
+
+-- both truth values
+unfoldable pub bools : List Bool
+bools = true ∷ false ∷ []
+
+pub in-bools : (b : Bool) → List·Memᴰ b bools
+unfolding bools
+in-bools true = List·Memᴰ·head refl
+in-bools false = List·Memᴰ·tail (List·Memᴰ·head refl)

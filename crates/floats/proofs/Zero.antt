@@ -1,26 +1,27 @@
--- Zero is plus, and negative zero too; what is below zero is minus, and so is what is no number. Assumes nothing.
+-- Zero is plus, and negative zero too; what is below zero is minus, and so is what is no number. (`toBits` is opened so that a sign taken from
+-- the sign bit would compute here as well, and be seen to differ.) Assumes nothing.
 use mathlib.Core.Path.{_≡_, refl}
 use mathlib.Core.Bool.{Bool, true, false}
-use lib.Ieee.{Float, nan, binary64, ofBits, neg, le, lt, eq}
+use lib.Ieee.{Float, nan, binary64, ofBits, toBits, neg, le, lt, eq}
 use Rattle.floats.specs.Finite.{nought}
 use Rattle.floats.specs.Numbers.{Numbers}
 use Rattle.floats.specs.Way.{given, f64}
 
 pub zero-plus : f64 .isPlus (given nought) ≡ true
-unfolding le ofBits
+unfolding le ofBits toBits
 zero-plus = refl
 
 pub negative-zero-plus : f64 .isPlus (given (neg nought)) ≡ true
-unfolding le neg ofBits
+unfolding le neg ofBits toBits
 negative-zero-plus = refl
 
 -- the smallest value below zero
 pub below-zero-minus : f64 .isPlus (given (ofBits binary64 0x8000_0000_0000_0001)) ≡ false
-unfolding le ofBits
+unfolding le ofBits toBits
 below-zero-minus = refl
 
 pub no-number-minus : f64 .isPlus (given nan) ≡ false
-unfolding le ofBits
+unfolding le ofBits toBits
 no-number-minus = refl
 
 -- both zeros are zero, and neither is below zero

@@ -1,112 +1,18 @@
--- Over any lines: where each edge meets each line that it crosses once, both lines through a corner agree whether it lies inside.
--- Seen from two lines alone an edge's order has at most two entries, so one computed test over all of them decides. Assumes nothing.
+-- Over any lines: where each edge meets each line that it crosses once, both lines through a corner agree whether it lies inside, since each sees
+-- of the walk just what `Two` is about. Assumes nothing.
 use mathlib.Core.Path.{_≡_, refl, sym, ap, ap₂, subst, _∙_}
-use mathlib.Core.Logic.{_⊎_, inl, inr}
-use mathlib.Core.Bool.{Bool, true, false, not, _&&_, _||_, cond, Bool·beq, false≢true}
-use mathlib.Core.List.{List, [], _∷_, _++_, map, List·Memᴰ, List·Memᴰ·head, List·Memᴰ·tail}
-use Prim.Native.Nat.{ℕ, zero, suc, _+_, _≤_}
-use native.Mathlib.Omega.{arith}
-use lib.Dec.{T, eqb}
+use mathlib.Core.Bool.{Bool, true, false, not, cond, Bool·beq, false≢true}
+use mathlib.Core.List.{List, [], _∷_, _++_, map}
+use Prim.Native.Nat.{ℕ, zero, suc, _+_}
+use lib.Dec.{eqb}
 use lib.ListN.{length, length-append}
-use borrow.Author.Tests.{eqb-true, eq-eqb}
-use Rattle.floats.specs.Lists.{all, filter, count, once, differ}
-use Rattle.floats.proofs.Lists.{all-at, same-bool, filter-append}
-use Rattle.lines.specs.Lines.{three}
+use borrow.Author.Tests.{eqb-true}
+use Rattle.floats.specs.Lists.{filter, count, once, differ}
+use Rattle.floats.proofs.Lists.{filter-append}
 use Rattle.lines.specs.Crossings.{Crossing, flip, walk}
 use Rattle.lines.specs.Round.{apart, crossingsOf, crossings, hits, cornerBy, edgesAcross, Meets, Agrees}
 use Rattle.lines.proofs.Count.{across}
-
--- ---- the walk seen from two lines alone: true where the first is met, false where the second is
--- the signs on the second at the places where the first is met
-seen : Bool → List Bool → List Bool
-seen y [] = []
-seen y (true ∷ r) = y ∷ seen y r
-seen y (false ∷ r) = seen (not y) r
-
--- two signs that differ
-unlike : List Bool → Bool
-unlike [] = false
-unlike (c ∷ []) = false
-unlike (c ∷ d ∷ []) = differ c d
-unlike (c ∷ d ∷ e ∷ r) = false
-
--- the two lines' orders on an edge, by whether it crosses the first and the second
-shorts : Bool → Bool → List (List Bool)
-shorts true true = (true ∷ false ∷ []) ∷ (false ∷ true ∷ []) ∷ []
-shorts true false = (true ∷ []) ∷ []
-shorts false true = (false ∷ []) ∷ []
-shorts false false = [] ∷ []
-
--- what the first line says, from the second's signs at the three vertices
-says : Bool → Bool → Bool → List Bool → List Bool → List Bool → Bool
-says i j k p q r = unlike (seen i p ++ (seen j q ++ seen k r))
-
--- with the signs x on the first line and y on the second at the three vertices: both say the same, in whatever orders
-same-say : Bool → Bool → Bool → Bool → Bool → Bool → Bool
-same-say x0 x1 x2 y0 y1 y2 =
-    all (λ p. all (λ q. all (λ r. Bool·beq (says y0 y1 y2 p q r) (says x0 x1 x2 (map not p) (map not q) (map not r)))
-    (shorts (differ x2 x0) (differ y2 y0))) (shorts (differ x1 x2) (differ y1 y2))) (shorts (differ x0 x1) (differ y0 y1))
-
-bools : List Bool
-bools = true ∷ false ∷ []
-
-in-bools : (b : Bool) → List·Memᴰ b bools
-unfolding bools
-in-bools true = List·Memᴰ·head refl
-in-bools false = List·Memᴰ·tail (List·Memᴰ·head refl)
-
-each : (Bool → Bool) → Bool
-each f = all f bools
-
-each-at : (f : Bool → Bool) → T (each f) → (b : Bool) → T (f b)
-unfolding each
-each-at f t b = all-at f bools t (in-bools b)
-
-all-say : T (each (λ x0. each (λ x1. each (λ x2. each (λ y0. each (λ y1. each (λ y2. same-say x0 x1 x2 y0 y1 y2)))))))
-unfolding each bools same-say says shorts unlike seen all
-all-say = tt
-
-say-at : (x0 x1 x2 y0 y1 y2 : Bool) (p q r : List Bool) → List·Memᴰ p (shorts (differ x0 x1) (differ y0 y1)) → List·Memᴰ q (shorts (differ x1 x2) (differ y1 y2)) → List·Memᴰ r (shorts (differ x2 x0) (differ y2 y0)) → says y0 y1 y2 p q r ≡ says x0 x1 x2 (map not p) (map not q) (map not r)
-unfolding same-say
-say-at x0 x1 x2 y0 y1 y2 p q r mp mq mr =
-    same-bool _ _
-    (all-at _ (shorts (differ x2 x0) (differ y2 y0)) (all-at _ (shorts (differ x1 x2) (differ y1 y2)) (all-at _ (shorts (differ x0 x1) (differ y0 y1))
-    (each-at (λ y2. same-say x0 x1 x2 y0 y1 y2)
-    (each-at (λ y1. each (λ y2. same-say x0 x1 x2 y0 y1 y2))
-    (each-at (λ y0. each (λ y1. each (λ y2. same-say x0 x1 x2 y0 y1 y2)))
-    (each-at (λ x2. each (λ y0. each (λ y1. each (λ y2. same-say x0 x1 x2 y0 y1 y2))))
-    (each-at (λ x1. each (λ x2. each (λ y0. each (λ y1. each (λ y2. same-say x0 x1 x2 y0 y1 y2)))))
-    (each-at (λ x0. each (λ x1. each (λ x2. each (λ y0. each (λ y1. each (λ y2. same-say x0 x1 x2 y0 y1 y2)))))) all-say x0)
-    x1) x2) y0) y1) y2) mp) mq) mr)
-
--- an order that meets each of the two lines at most once is one of the short ones
-once-le : (x : Bool) → once x ≤ 1
-once-le true = omega arith
-once-le false = omega arith
-
-short : (l : List Bool) (x y : Bool) → count (λ e. e) l ≡ once x → count not l ≡ once y → List·Memᴰ l (shorts x y)
-unfolding count shorts
-short [] true y h k = absurd (omega arith)
-short [] false true h k = absurd (omega arith)
-short [] false false h k = List·Memᴰ·head refl
-short (true ∷ []) true true h k = absurd (omega arith)
-short (true ∷ []) true false h k = List·Memᴰ·head refl
-short (true ∷ []) false y h k = absurd (omega arith)
-short (false ∷ []) true y h k = absurd (omega arith)
-short (false ∷ []) false true h k = List·Memᴰ·head refl
-short (false ∷ []) false false h k = absurd (omega arith)
-short (true ∷ true ∷ r) x y h k = absurd (omega (arith, once-le x))
-short (false ∷ false ∷ r) x y h k = absurd (omega (arith, once-le y))
-short (true ∷ false ∷ []) true true h k = List·Memᴰ·head refl
-short (true ∷ false ∷ []) true false h k = absurd (omega arith)
-short (true ∷ false ∷ []) false y h k = absurd (omega arith)
-short (false ∷ true ∷ []) true true h k = List·Memᴰ·tail (List·Memᴰ·head refl)
-short (false ∷ true ∷ []) true false h k = absurd (omega arith)
-short (false ∷ true ∷ []) false y h k = absurd (omega arith)
-short (true ∷ false ∷ true ∷ r) x y h k = absurd (omega (arith, once-le x))
-short (true ∷ false ∷ false ∷ r) x y h k = absurd (omega (arith, once-le y))
-short (false ∷ true ∷ true ∷ r) x y h k = absurd (omega (arith, once-le x))
-short (false ∷ true ∷ false ∷ r) x y h k = absurd (omega (arith, once-le y))
+use Rattle.lines.proofs.Two.{seen, unlike, says, say-at, short}
 
 -- ---- from the walk to what two lines see of it
 map-append : {A B : Type 0} (f : A → B) (x y : List A) → map f (x ++ y) ≡ map f x ++ map f y

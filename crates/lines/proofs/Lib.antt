@@ -1,3 +1,4 @@
 pub mod Signs
 pub mod Count
+pub mod Two
 pub mod Corner

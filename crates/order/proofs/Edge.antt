@@ -10,11 +10,11 @@ use lib.Ieee.Fits.{and-l, and-r}
 use lib.ListN.{length, List·getD-eq-default}
 use borrow.Author.Tests.{ne-eqb, ltb-true, ltb-false}
 use Rattle.floats.specs.Lists.{all, any, count, once, differ, sameList}
-use Rattle.floats.proofs.Lists.{all-at, any-member, same-list}
+use Rattle.floats.proofs.Lists.{all-at, any-member, same-list, bools, in-bools}
 use Rattle.lines.specs.Lines.{three, sign}
 use Rattle.lines.specs.Crossings.{crosses, admissible}
 use Rattle.order.specs.Order.{Decided, orderAlong, admissibleOrders}
-use Rattle.order.proofs.Every.{seven, eight, bools, in-bools, in-three}
+use Rattle.order.proofs.Every.{seven, eight, in-three}
 
 unfoldable pub sameOrder : List ℕ → List ℕ → Bool
 unfolding sameList

@@ -45,14 +45,6 @@ in-eight true false false = there (there (there (there (there (here refl)))))
 in-eight false true false = there (there (there (there (there (there (here refl))))))
 in-eight false false true = there (there (there (there (there (there (there (here refl)))))))
 
-unfoldable pub bools : List Bool
-bools = true ∷ false ∷ []
-
-pub in-bools : (b : Bool) → List·Memᴰ b bools
-unfolding bools
-in-bools true = here refl
-in-bools false = there (here refl)
-
 pub in-three : (a : ℕ) → a < 3 → List·Memᴰ a three
 in-three zero h = here refl
 in-three (suc zero) h = there (here refl)

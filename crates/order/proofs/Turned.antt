@@ -10,11 +10,12 @@ use lib.Ieee.{Float, binary64, ofInt, ofBits, add, sub, mul, neg, lt, le, eq}
 use Rattle.floats.specs.Lists.{all, any, differ}
 use Rattle.floats.specs.Numbers.{Numbers}
 use Rattle.floats.specs.Way.{Way, given, f64}
+use Rattle.floats.proofs.Lists.{bools}
 use Rattle.lines.specs.Lines.{three}
 use Rattle.lines.specs.Parameters.{Parameters, unseen, signs}
 use Rattle.order.specs.PairTest.{pairD, metFirst, testOn, outcomesOn}
 use Rattle.order.specs.Order.{before}
-use Rattle.order.proofs.Every.{seven, eight, bools}
+use Rattle.order.proofs.Every.{seven, eight}
 
 -- on edge 2, which the walk takes from its higher vertex, the pair tests start at U0 all the same
 pub from-lower-end : (K : Numbers) (ps : ℕ → Parameters (K .N)) (a b : ℕ) → (testOn K ps 0 a b ≡ pairD K (ps 0) (ps 1) a b) × (testOn K ps 1 a b ≡ pairD K (ps 1) (ps 2) a b) × (testOn K ps 2 a b ≡ pairD K (ps 0) (ps 2) a b)

@@ -46,9 +46,14 @@ below-three : (k : ℕ) → List·Memᴰ k three → k < 3
 below-three k m = ltb→lt k 3 (all-at (λ k. ltb k 3) three (unfold all in tt) m)
 
 module _ (l : List Float) where
-  sound : Sound (signsBy l) (ordersBy l)
+  pub sound : Sound (signsBy l) (ordersBy l)
   unfolding signsOf outcomesOf ordersOfEdges
   sound = ring-demand3 f64 (carriedBy l)
+
+  -- the values of the corners, two for each of the ring's places
+  pub count-of-values : length (valuesOfCorners (cornersOf l)) ≡ 2 * length (ringOf l)
+  unfolding cornersOf
+  count-of-values = values-length (cornersOf l) ∙ ap (2 *_) (length-map (ringOf l) (positionOf l))
 
   vertex-flag : (i : ℕ) → i < 3 → vertexIn (signsBy l) (ordersBy l) i ≡ getD (found l .«u_in_v») i false
   unfolding found verticesIn
@@ -95,5 +100,5 @@ module _ (l : List Float) where
         counted = rw q refl;
         holds = rw q held;
         neighbours = rw q (sound .neighbours);
-        positions = rw q (take-at (valuesOfCorners (cornersOf l)) _ _ (values-length (cornersOf l) ∙ ap (2 *_) (length-map (ringOf l) (positionOf l))));
+        positions = rw q (take-at (valuesOfCorners (cornersOf l)) _ _ count-of-values);
       }

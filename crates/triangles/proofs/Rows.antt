@@ -203,7 +203,7 @@ module _ (l room : List Float) where
       from (inl p) f = absurd (no-row p (f .0) (f .1 .applies))
       from (inr r) f = r .number ∙ (ap numberOf (same-row (r .row) (f .0) (one-first (r .row) (f .0) (first-row r) (f .1))) ∙ f .2)
 
-  by-none : (refusalOf l room ≡ 0) ↔ NoRow l room
+  pub by-none : (refusalOf l room ≡ 0) ↔ NoRow l room
   unfolding refusalOf
   by-none = (to (search-rows l room table), from (search-rows l room table))
     where

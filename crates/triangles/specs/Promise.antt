@@ -1,6 +1,8 @@
 -- What the entry point promises of its result and of the lent room, for all inputs. Statements only.
 use mathlib.Core.Path.{_≡_}
 use mathlib.Core.List.{List}
+use Prim.Native.Nat.{_*_}
+use lib.ListN.{length, drop}
 use lib.Ieee.{Float}
 use Rattle.triangles.specs.declared.Answer.{Answer}
 use Rattle.triangles.specs.Answers.{Whole, wholeOf}
@@ -9,3 +11,8 @@ use Rattle.triangles.specs.Answers.{Whole, wholeOf}
 pub record Promise (values room : List Float) (result : Answer) (after : List Float) : Type 0 where
   pub result-is : result ≡ wholeOf values room .answer
   pub after-is : after ≡ wholeOf values room .room
+
+-- of any input, refused or not: the room keeps its length, and its values beyond the first 2n are as they were lent
+pub record RestKept (values room : List Float) : Type 0 where
+  pub sameLength : length (wholeOf values room .room) ≡ length room
+  pub rest : drop (2 * wholeOf values room .answer .n) (wholeOf values room .room) ≡ drop (2 * wholeOf values room .answer .n) room
