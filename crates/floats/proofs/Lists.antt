@@ -6,7 +6,7 @@ use mathlib.Core.Bool.{Bool, true, false, not, _&&_, _||_, cond, Bool·beq, and-
 use mathlib.Core.List.{List, [], _∷_, _++_, List·Memᴰ, List·Memᴰ·head, List·Memᴰ·tail, List·Memᴰ·cases-cons, List·Memᴰ·not-nil}
 use Prim.Native.Nat.{ℕ, zero, suc, _+_}
 use native.Mathlib.Omega.{arith}
-use lib.Dec.{T}
+use lib.Dec.{T, eqb, eqb→eq}
 use lib.Ieee.Fits.{and-l, and-r}
 use Rattle.floats.specs.Lists.{all, any, filter, count, differ, sameList}
 
@@ -105,3 +105,20 @@ pub in-bools : (b : Bool) → List·Memᴰ b bools
 unfolding bools
 in-bools true = List·Memᴰ·head refl
 in-bools false = List·Memᴰ·tail (List·Memᴰ·head refl)
+
+-- a test of both, and of three truth values at once
+unfoldable pub each : (Bool → Bool) → Bool
+unfolding all bools
+each f = all f bools
+
+pub each-at : (f : Bool → Bool) → T (each f) → (b : Bool) → T (f b)
+unfolding each
+each-at f t b = all-at f bools t (in-bools b)
+
+-- two numbers that depend on three truth values are the same if they are so by computation
+pub same-by-three : (f g : Bool → Bool → Bool → ℕ) → T (each (λ x. each (λ y. each (λ z. eqb (f x y z) (g x y z))))) → (x y z : Bool) → f x y z ≡ g x y z
+same-by-three f g t x y z =
+    eqb→eq (f x y z) (g x y z)
+    (each-at (λ z. eqb (f x y z) (g x y z))
+    (each-at (λ y. each (λ z. eqb (f x y z) (g x y z)))
+    (each-at (λ x. each (λ y. each (λ z. eqb (f x y z) (g x y z)))) t x) y) z)

@@ -8,7 +8,7 @@ use lib.Dec.{eqb}
 use lib.ListN.{length, length-append}
 use borrow.Author.Tests.{eqb-true}
 use Rattle.floats.specs.Lists.{filter, count, once, differ}
-use Rattle.floats.proofs.Lists.{filter-append}
+use Rattle.floats.proofs.Lists.{filter-append, each, same-by-three}
 use Rattle.lines.specs.Crossings.{Crossing, flip, walk}
 use Rattle.lines.specs.Round.{apart, crossingsOf, crossings, hits, cornerBy, edgesAcross, Meets, Agrees}
 use Rattle.lines.proofs.Count.{across}
@@ -149,17 +149,13 @@ module _ (u : ℕ → ℕ → Bool) (o : ℕ → List ℕ) (m : Meets u o) where
   unfolding edgesAcross count
   found-all a =
       ap length (hits-are u o a)
-      ∙ simp (length-append, hits-length, m .edge0, m .edge1, m .edge2) (go (differ (u 0 a) (u 1 a)) (differ (u 1 a) (u 2 a)) (differ (u 2 a) (u 0 a)))
+      ∙ simp (length-append, hits-length, m .edge0, m .edge1, m .edge2) (same-by-three sum nested (unfold each in tt) (differ (u 0 a) (u 1 a)) (differ (u 1 a) (u 2 a)) (differ (u 2 a) (u 0 a)))
     where
-      go : (x y z : Bool) → once x + (once y + once z) ≡ cond x (suc (cond y (suc (cond z 1 0)) (cond z 1 0))) (cond y (suc (cond z 1 0)) (cond z 1 0))
-      go true true true = refl
-      go true true false = refl
-      go true false true = refl
-      go true false false = refl
-      go false true true = refl
-      go false true false = refl
-      go false false true = refl
-      go false false false = refl
+      sum : Bool → Bool → Bool → ℕ
+      sum x y z = once x + (once y + once z)
+
+      nested : Bool → Bool → Bool → ℕ
+      nested x y z = cond x (suc (cond y (suc (cond z 1 0)) (cond z 1 0))) (cond y (suc (cond z 1 0)) (cond z 1 0))
 
   pub agrees : Agrees u o
   agrees = record { noneOrTwo = across u; allFound = found-all; bothLines = agree }

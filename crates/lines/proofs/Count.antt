@@ -8,7 +8,7 @@ use native.Mathlib.Omega.{arith}
 use native.Mathlib.Nat.{suc-mul, mul-suc}
 use lib.ListN.{length}
 use Rattle.floats.specs.Lists.{count, differ}
-use Rattle.floats.proofs.Lists.{count-append}
+use Rattle.floats.proofs.Lists.{count-append, each, same-by-three}
 use Rattle.lines.specs.Lines.{three}
 use Rattle.lines.specs.Crossings.{edgesOf, splits, crossers}
 use Rattle.lines.specs.Round.{edgesAcross}
@@ -66,18 +66,16 @@ none-or-two p vs h = go (count p vs) (count (λ v. not (p v)) vs) (total p vs �
 -- U's edges run round, 0 to 1, 1 to 2, 2 to 0: they cross as often as the edges between its vertices
 round : (u : ℕ → ℕ → Bool) (a : ℕ) → edgesAcross u a ≡ crossers (λ i. u i a) three
 unfolding edgesAcross crossers count edgesOf
-round u a = go (u 0 a) (u 1 a) (u 2 a)
+round u a = same-by-three ends pairs (unfold each in tt) (u 0 a) (u 1 a) (u 2 a)
   where
-    go : (x y z : Bool) → cond (differ x y) (suc (cond (differ y z) (suc (cond (differ z x) 1 0)) (cond (differ z x) 1 0))) (cond (differ y z) (suc (cond (differ z x) 1 0)) (cond (differ z x) 1 0))
-        ≡ cond (differ x y) (suc (cond (differ x z) (suc (cond (differ y z) 1 0)) (cond (differ y z) 1 0))) (cond (differ x z) (suc (cond (differ y z) 1 0)) (cond (differ y z) 1 0))
-    go true true true = refl
-    go true true false = refl
-    go true false true = refl
-    go true false false = refl
-    go false true true = refl
-    go false true false = refl
-    go false false true = refl
-    go false false false = refl
+    one : Bool → ℕ → ℕ
+    one b n = cond b (suc n) n
+
+    ends : Bool → Bool → Bool → ℕ
+    ends x y z = one (differ x y) (one (differ y z) (one (differ z x) 0))
+
+    pairs : Bool → Bool → Bool → ℕ
+    pairs x y z = one (differ x y) (one (differ x z) (one (differ y z) 0))
 
 -- each line is crossed by none or two edges of U
 pub across : (u : ℕ → ℕ → Bool) (a : ℕ) → (edgesAcross u a ≡ 0) ⊎ (edgesAcross u a ≡ 2)

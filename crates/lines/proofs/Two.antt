@@ -7,7 +7,7 @@ use Prim.Native.Nat.{ℕ, _≤_}
 use native.Mathlib.Omega.{arith}
 use lib.Dec.{T}
 use Rattle.floats.specs.Lists.{all, count, once, differ}
-use Rattle.floats.proofs.Lists.{all-at, same-bool, bools, in-bools}
+use Rattle.floats.proofs.Lists.{all-at, same-bool, each, each-at}
 
 -- ---- the walk seen from two lines alone: true where the first is met, false where the second is
 -- the signs on the second at the places where the first is met
@@ -40,15 +40,8 @@ same-say x0 x1 x2 y0 y1 y2 =
     all (λ p. all (λ q. all (λ r. Bool·beq (says y0 y1 y2 p q r) (says x0 x1 x2 (map not p) (map not q) (map not r)))
     (shorts (differ x2 x0) (differ y2 y0))) (shorts (differ x1 x2) (differ y1 y2))) (shorts (differ x0 x1) (differ y0 y1))
 
-each : (Bool → Bool) → Bool
-each f = all f bools
-
-each-at : (f : Bool → Bool) → T (each f) → (b : Bool) → T (f b)
-unfolding each
-each-at f t b = all-at f bools t (in-bools b)
-
 all-say : T (each (λ x0. each (λ x1. each (λ x2. each (λ y0. each (λ y1. each (λ y2. same-say x0 x1 x2 y0 y1 y2)))))))
-unfolding each bools same-say says shorts unlike seen all
+unfolding each same-say says shorts unlike seen all
 all-say = tt
 
 pub say-at : (x0 x1 x2 y0 y1 y2 : Bool) (p q r : List Bool) → List·Memᴰ p (shorts (differ x0 x1) (differ y0 y1)) → List·Memᴰ q (shorts (differ x1 x2) (differ y1 y2)) → List·Memᴰ r (shorts (differ x2 x0) (differ y2 y0)) → says y0 y1 y2 p q r ≡ says x0 x1 x2 (map not p) (map not q) (map not r)

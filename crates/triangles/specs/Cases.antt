@@ -56,9 +56,10 @@ flat = triangle (pos 0) (pos 0) (pos 1) (pos 1) (pos 2) (pos 2)
 abbrev largeV : List Float
 largeV = triangle (pos 0) (pos 0) (pos 8) (pos 0) (pos 0) (pos 8)
 
-abbrev caseA : Case
-caseA = record {
-  values = smallU ++ standardV;
+-- A and H: U of A inside V
+abbrev inside : List Float → Case
+inside v = record {
+  values = smallU ++ v;
   number = 0;
   n = 3;
   corners = smallU;
@@ -147,19 +148,6 @@ caseG = record {
   tests = 3;
 }
 
-abbrev caseH : Case
-caseH = record {
-  values = smallU ++ triangle (pos 0) (pos 0) (pos 0) (pos 4) (pos 4) (pos 0);
-  number = 0;
-  n = 3;
-  corners = smallU;
-  area = oneHalf;
-  inV = flags true true true;
-  inU = noFlags;
-  neighbour = noFlags;
-  tests = 0;
-}
-
 -- K: no number in place k
 abbrev casesK : List Float → List Case
 casesK l = map (λ k. refusedWith 2 (set l k nan)) (lines 12)
@@ -167,7 +155,7 @@ casesK l = map (λ k. refusedWith 2 (set l k nan)) (lines 12)
 abbrev pub cases : List Case
 unfolding lines
 cases =
-    caseA ∷ caseB ∷ caseC ∷ caseD ∷ caseE ∷ caseF ∷ caseG ∷ caseH
+    inside standardV ∷ caseB ∷ caseC ∷ caseD ∷ caseE ∷ caseF ∷ caseG ∷ inside (triangle (pos 0) (pos 0) (pos 0) (pos 4) (pos 4) (pos 0))
     ∷ refusedWith 3 (smallU ++ flat)
     ∷ refusedWith 5 (flat ++ standardV)
     ∷ refusedWith 4 (smallU ++ triangle (pos 0) (pos 0) (pos (10 ^ 300)) (pos 0) (pos 0) (pos (10 ^ 300)))
