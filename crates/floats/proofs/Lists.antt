@@ -4,10 +4,11 @@ use mathlib.Core.Path.{_≡_, refl, sym, ap, ap₂, subst, _∙_}
 use mathlib.Core.Logic.{_⊎_, inl, inr}
 use mathlib.Core.Bool.{Bool, true, false, not, _&&_, _||_, cond, Bool·beq, and-assoc, false≢true}
 use mathlib.Core.List.{List, [], _∷_, _++_, List·Memᴰ, List·Memᴰ·head, List·Memᴰ·tail, List·Memᴰ·cases-cons, List·Memᴰ·not-nil}
-use Prim.Native.Nat.{ℕ, zero, suc, _+_}
+use Prim.Native.Nat.{ℕ, zero, suc, _+_, _<_}
 use native.Mathlib.Omega.{arith}
 use lib.Dec.{T, eqb, eqb→eq}
-use lib.Ieee.Fits.{and-l, and-r}
+use lib.Ieee.Fits.{and-i, and-l, and-r}
+use lib.ListN.{length, getD}
 use Rattle.floats.specs.Lists.{all, any, filter, count, differ, sameList}
 
 pub so : {b : Bool} → T b → b ≡ true
@@ -39,6 +40,18 @@ all-at f (y ∷ ys) {x} t m = go (List·Memᴰ·cases-cons m) (λ k. all-at f ys
     go : (x ≡ y) ⊎ List·Memᴰ x ys → (List·Memᴰ x ys → T (f x)) → T (f x)
     go (inl e) rest = subst (λ z. T (f z)) (sym e) (and-l (f y) (all f ys) t)
     go (inr k) rest = rest k
+
+pub all-of : {A : Type 0} (f : A → Bool) (xs : List A) → ((x : A) → List·Memᴰ x xs → T (f x)) → T (all f xs)
+unfolding all
+all-of f [] h = tt
+all-of f (x ∷ xs) h = and-i (f x) (all f xs) (h x (List·Memᴰ·head refl)) (all-of f xs (λ y m. h y (List·Memᴰ·tail m)))
+
+-- what holds of all holds at each place
+pub all-getD : {A : Type 0} (f : A → Bool) (xs : List A) (k : ℕ) (d : A) → T (all f xs) → k < length xs → T (f (getD xs k d))
+unfolding all
+all-getD f [] k d t h = absurd (omega arith)
+all-getD f (x ∷ xs) zero d t h = and-l (f x) (all f xs) t
+all-getD f (x ∷ xs) (suc k) d t h = all-getD f xs k d (and-r (f x) (all f xs) t) (omega arith)
 
 -- where not all pass, one does not
 pub fails-at : {A : Type 0} (f : A → Bool) (xs : List A) → all f xs ≡ false → (x : A) × List·Memᴰ x xs × (f x ≡ false)

@@ -33,12 +33,12 @@ values-length [] = refl
 values-length (c ∷ cs) = omega (arith, values-length cs)
 
 -- the fifteen places have numbers below three
-inRange : Place → Bool
+unfoldable pub inRange : Place → Bool
 inRange (vertex i) = ltb i 3
 inRange (corner k) = ltb k 3
 inRange (crossing e a) = ltb e 3 && ltb a 3
 
-fifteen-in-range : T (all inRange fifteen)
+pub fifteen-in-range : T (all inRange fifteen)
 unfolding all inRange
 fifteen-in-range = tt
 
@@ -87,6 +87,11 @@ module _ (l : List Float) where
   unfolding cornerIn
   lower-says k m = corner-flag k (below-three k m)
 
+  -- the front of the room, after an answer
+  pub front : (room : List Float) → take (2 * answered l room .answer .n) (answered l room .room) ≡ valuesOfCorners (cornersOf l)
+  unfolding answered found written
+  front room = take-at (valuesOfCorners (cornersOf l)) _ _ count-of-values
+
   -- for every list of values and every room that are not refused
   pub demand3 : (room : List Float) → wholeOf l room .answer .number ≡ 0 → Demand3 l room
   unfolding answered found written ringOf cornersOf
@@ -100,5 +105,5 @@ module _ (l : List Float) where
         counted = rw q refl;
         holds = rw q held;
         neighbours = rw q (sound .neighbours);
-        positions = rw q (take-at (valuesOfCorners (cornersOf l)) _ _ count-of-values);
+        positions = rw q (front room);
       }

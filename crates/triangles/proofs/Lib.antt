@@ -3,3 +3,4 @@ pub mod Rows
 pub mod Unique
 pub mod Demand
 pub mod Rest
+pub mod FiniteAnswer

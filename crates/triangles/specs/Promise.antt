@@ -1,9 +1,12 @@
 -- What the entry point promises of its result and of the lent room, for all inputs. Statements only.
 use mathlib.Core.Path.{_≡_}
+use mathlib.Core.Bool.{true}
 use mathlib.Core.List.{List}
 use Prim.Native.Nat.{_*_}
-use lib.ListN.{length, drop}
+use lib.ListN.{length, take, drop}
 use lib.Ieee.{Float}
+use Rattle.floats.specs.Lists.{all}
+use Rattle.floats.specs.Finite.{finite}
 use Rattle.triangles.specs.declared.Answer.{Answer}
 use Rattle.triangles.specs.Answers.{Whole, wholeOf}
 
@@ -16,3 +19,8 @@ pub record Promise (values room : List Float) (result : Answer) (after : List Fl
 pub record RestKept (values room : List Float) : Type 0 where
   pub sameLength : length (wholeOf values room .room) ≡ length room
   pub rest : drop (2 * wholeOf values room .answer .n) (wholeOf values room .room) ≡ drop (2 * wholeOf values room .answer .n) room
+
+-- of an answer that is no refusal: its area and all values that it writes are finite
+pub record FiniteAnswer (values room : List Float) : Type 0 where
+  pub corners : all finite (take (2 * wholeOf values room .answer .n) (wholeOf values room .room)) ≡ true
+  pub area : finite (wholeOf values room .answer .area) ≡ true
