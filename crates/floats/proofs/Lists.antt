@@ -2,14 +2,14 @@
 -- Assumes nothing.
 use mathlib.Core.Path.{_≡_, refl, sym, ap, ap₂, subst, _∙_}
 use mathlib.Core.Logic.{_⊎_, inl, inr}
-use mathlib.Core.Bool.{Bool, true, false, not, _&&_, _||_, cond, Bool·beq, and-assoc, false≢true}
+use mathlib.Core.Bool.{Bool, true, false, _&&_, _||_, cond, Bool·beq, and-assoc, false≢true}
 use mathlib.Core.List.{List, [], _∷_, _++_, List·Memᴰ, List·Memᴰ·head, List·Memᴰ·tail, List·Memᴰ·cases-cons, List·Memᴰ·not-nil}
 use Prim.Native.Nat.{ℕ, zero, suc, _+_, _<_}
 use native.Mathlib.Omega.{arith}
 use lib.Dec.{T, eqb, eqb→eq}
 use lib.Ieee.Fits.{and-i, and-l, and-r}
 use lib.ListN.{length, getD}
-use Rattle.floats.specs.Lists.{all, any, filter, count, differ, sameList}
+use Rattle.floats.specs.Lists.{all, any, filter, count, sameList}
 
 pub so : {b : Bool} → T b → b ≡ true
 so {b} t = go b t

@@ -7,7 +7,7 @@ use lib.Dec.{eqb}
 use lib.Ieee.{Float, nan, inf, fin, binary64, add, sub, mul, div, neg, unlike, ofBits}
 use Rattle.floats.specs.Lists.{all}
 use Rattle.floats.specs.Finite.{finite}
-use Rattle.floats.specs.Numbers.{Numbers, Point, cross, crossFrom}
+use Rattle.floats.specs.Numbers.{Point, cross, crossFrom}
 use Rattle.floats.specs.Way.{Way, given, step, _⊕_, _⊖_, _⊗_, _⊘_, negated, fine, f64}
 use Rattle.floats.proofs.Lists.{all-append}
 

@@ -1,10 +1,9 @@
 -- Zero is plus, and negative zero too; what is below zero is minus, and so is what is no number. (`toBits` is opened so that a sign taken from
 -- the sign bit would compute here as well, and be seen to differ.) Assumes nothing.
 use mathlib.Core.Path.{_≡_, refl}
-use mathlib.Core.Bool.{Bool, true, false}
-use lib.Ieee.{Float, nan, binary64, ofBits, toBits, neg, le, lt, eq}
+use mathlib.Core.Bool.{true, false}
+use lib.Ieee.{nan, binary64, ofBits, toBits, neg, le, lt, eq}
 use Rattle.floats.specs.Finite.{nought}
-use Rattle.floats.specs.Numbers.{Numbers}
 use Rattle.floats.specs.Way.{given, f64}
 
 pub zero-plus : f64 .isPlus (given nought) ≡ true

@@ -1,7 +1,7 @@
 -- Tests and counts over lists, in which the rules are written. Definitions only.
 use mathlib.Core.Bool.{Bool, true, false, not, _&&_, _||_, cond, Bool·beq}
 use mathlib.Core.List.{List, [], _∷_}
-use Prim.Native.Nat.{ℕ, zero, suc}
+use Prim.Native.Nat.{ℕ, suc}
 
 unfoldable pub all : {A : Type 0} → (A → Bool) → List A → Bool
 all f [] = true

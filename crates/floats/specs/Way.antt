@@ -1,5 +1,5 @@
 -- 01, "Numbers and lines": f64 operations, each rounded once, with the result of each kept as a value on the way. Definitions only.
-use mathlib.Core.Bool.{Bool, true, false, cond}
+use mathlib.Core.Bool.{Bool}
 use mathlib.Core.List.{List, [], _∷_, _++_}
 use lib.Ieee.{Float, binary64, add, sub, mul, div, neg, lt, le, eq}
 use Rattle.floats.specs.Lists.{all}

@@ -1,8 +1,7 @@
 -- No vertex is minus on all lines, whatever their number; and the tables of corners and edges say the same from either side. Assumes nothing.
 use mathlib.Core.Path.{_≡_, refl, sym, ap, _∙_}
-use mathlib.Core.Bool.{Bool, true, false, not, _&&_, _||_, cond, or-assoc}
+use mathlib.Core.Bool.{Bool, true, false, not, _&&_, _||_, or-assoc}
 use mathlib.Core.List.{List, [], _∷_, _++_}
-use Prim.Native.Nat.{ℕ}
 use lib.Dec.{T, eqb}
 use Rattle.floats.specs.Lists.{all, any}
 use Rattle.lines.specs.Lines.{three, cornerOn, lowerLine, upperLine, start, finish}

@@ -1,5 +1,5 @@
 -- 01, "Crossings and their order along an edge": over lines 0 .. n−1 and any signs on them. true is plus. Definitions only.
-use mathlib.Core.Bool.{Bool, true, false, not, _&&_, _||_, cond}
+use mathlib.Core.Bool.{Bool, _&&_, _||_}
 use mathlib.Core.List.{List, [], _∷_, _++_, map}
 use Prim.Native.Nat.{ℕ}
 use lib.Dec.{eqb}

@@ -1,5 +1,5 @@
 -- 01, "Numbers and lines" and "Crossings and their order along an edge": lines, corners, edges and signs by number. Definitions only.
-use mathlib.Core.Bool.{Bool, true, false}
+use mathlib.Core.Bool.{Bool, false}
 use mathlib.Core.List.{List, [], _∷_}
 use Prim.Native.Nat.{ℕ, zero, suc}
 use lib.ListN.{getD}

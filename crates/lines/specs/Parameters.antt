@@ -1,6 +1,6 @@
 -- 01, "Numbers and lines": a vertex's parameters, in any numbers, and their signs. Definitions only.
 use Prim.Native.Nat.{ℕ}
-use mathlib.Core.Bool.{Bool, true, false, not, _||_, cond}
+use mathlib.Core.Bool.{Bool, not, _||_, cond}
 use mathlib.Core.List.{List, [], _∷_, _++_}
 use lib.Dec.{eqb}
 use Rattle.floats.specs.Lists.{any}

@@ -1,15 +1,15 @@
 -- Whatever an edge's pair tests say: its order meets each line that it crosses once and no other, it is admissible, and each admissible order
 -- can come. One computed test over all signs and outcomes shows it. Assumes nothing.
-use mathlib.Core.Path.{_≡_, refl, sym, ap, _∙_}
-use mathlib.Core.Bool.{Bool, true, false, not, _&&_, _||_, cond}
+use mathlib.Core.Path.{_≡_, refl, _∙_}
+use mathlib.Core.Bool.{Bool, true, false, _&&_}
 use mathlib.Core.List.{List, [], _∷_, List·Memᴰ}
-use Prim.Native.Nat.{ℕ, zero, suc, _≤_, _<_}
+use Prim.Native.Nat.{ℕ, _≤_, _<_}
 use native.Mathlib.Omega.{arith}
 use lib.Dec.{T, eqb, ltb, eqb→eq, ltb→lt}
 use lib.Ieee.Fits.{and-l, and-r}
 use lib.ListN.{length, List·getD-eq-default}
 use borrow.Author.Tests.{ne-eqb, ltb-true, ltb-false}
-use Rattle.floats.specs.Lists.{all, any, count, once, differ, sameList}
+use Rattle.floats.specs.Lists.{all, any, count, once, sameList}
 use Rattle.floats.proofs.Lists.{all-at, any-member, same-list, bools, in-bools}
 use Rattle.lines.specs.Lines.{three, sign}
 use Rattle.lines.specs.Crossings.{crosses, admissible}

@@ -1,5 +1,5 @@
 -- The signs that a vertex can have on three lines, the outcomes that an edge's pair tests can have, and that there are no others. Assumes nothing.
-use mathlib.Core.Path.{_≡_, refl}
+use mathlib.Core.Path.{refl}
 use Prim.Native.Nat.{ℕ, zero, suc, _<_}
 use native.Mathlib.Omega.{arith}
 use mathlib.Core.Bool.{Bool, true, false}

@@ -1,13 +1,13 @@
 -- A pair test takes the lower vertex and the lower line first, and at a tie has that line met first; seen from the higher vertex, or asked of the
 -- higher line, its answer is turned. Assumes nothing.
 use mathlib.Core.Path.{_≡_, refl}
-use mathlib.Core.Bool.{Bool, true, false, not, _&&_, _||_, Bool·beq, cond}
+use mathlib.Core.Bool.{Bool, true, not, _&&_, _||_}
 use mathlib.Core.List.{List, [], _∷_}
 use Prim.Native.Nat.{ℕ}
 use lib.Dec.{T, eqb}
 use lib.IntN.{pos, negsuc}
 use lib.Ieee.{Float, binary64, ofInt, ofBits, add, sub, mul, neg, lt, le, eq}
-use Rattle.floats.specs.Lists.{all, any, differ}
+use Rattle.floats.specs.Lists.{all, differ}
 use Rattle.floats.specs.Numbers.{Numbers}
 use Rattle.floats.specs.Way.{Way, given, f64}
 use Rattle.floats.proofs.Lists.{bools}

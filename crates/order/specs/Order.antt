@@ -1,6 +1,6 @@
 -- 01, "Crossings and their order along an edge": the order of two and of three lines, and which pair tests are computed.
 -- From signs and outcomes of pair tests alone. Definitions only.
-use mathlib.Core.Bool.{Bool, true, false, not, _&&_, cond}
+use mathlib.Core.Bool.{Bool, false, not, _&&_, cond}
 use mathlib.Core.List.{List, [], _∷_, _++_, reverse, map}
 use Prim.Native.Nat.{ℕ, min, max}
 use lib.Dec.{eqb, ltb}

@@ -1,7 +1,7 @@
 -- 01, "Crossings and their order along an edge": the pair test, in any numbers. Definitions only.
 -- ps i are the parameters of vertex i.
-use mathlib.Core.Bool.{Bool, true, false, cond, Bool·beq}
-use mathlib.Core.List.{List, [], _∷_, map}
+use mathlib.Core.Bool.{Bool, cond, Bool·beq}
+use mathlib.Core.List.{List, map}
 use Prim.Native.Nat.{ℕ, min, max}
 use Rattle.floats.specs.Numbers.{Numbers, cross}
 use Rattle.lines.specs.Lines.{three, sign, start, finish, lowerLine, upperLine}

@@ -1,13 +1,13 @@
 -- Demand 3 of every walk, in any numbers: the lines' part by the laws over any number of lines, the ring's by the computed test. Assumes nothing.
 use mathlib.Core.Path.{_≡_, refl}
-use mathlib.Core.Logic.{_⊎_, inl, inr}
-use mathlib.Core.Bool.{Bool, true, false, _&&_, _||_}
+use mathlib.Core.Logic.{inl, inr}
+use mathlib.Core.Bool.{Bool, _&&_}
 use mathlib.Core.List.{List, [], _∷_, List·Memᴰ, List·Memᴰ·head, List·Memᴰ·tail}
-use Prim.Native.Nat.{ℕ, _≤_}
+use Prim.Native.Nat.{ℕ}
 use lib.Dec.{T, eqb, leb, ltb, eqb→eq, leb→le}
 use lib.Ieee.Fits.{and-l, and-r}
 use lib.ListN.{length}
-use Rattle.floats.specs.Lists.{all, any, count, once}
+use Rattle.floats.specs.Lists.{any, count, once}
 use Rattle.floats.specs.Numbers.{Numbers}
 use Rattle.floats.proofs.Lists.{so, all-at, any-member, or-cases}
 use Rattle.lines.specs.Lines.{signsAt, start, finish}
@@ -22,7 +22,7 @@ use Rattle.ring.specs.Places.{Place, vertex, corner, crossing, samePlace
 use Rattle.ring.specs.Flags.{found}
 use Rattle.ring.specs.Ring.{ring}
 use Rattle.ring.specs.Demand.{NoneOrThreeToSix, Holds, Joined, Linked, Closed, Sound}
-use Rattle.ring.proofs.Walks.{Test, every-walk}
+use Rattle.ring.proofs.Walks.{every-walk}
 use Rattle.ring.proofs.Sweep.{joined, linked, isClosed, isSize, exact, within, sound, all-sound}
 
 -- ---- the tests as statements

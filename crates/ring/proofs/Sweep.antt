@@ -1,15 +1,14 @@
 -- The computed test over all walks: the ring's size, each place as often as it was found, neighbours on a common edge, and how the gap is
 -- filled. Assumes nothing.
-use mathlib.Core.Path.{_≡_, refl}
-use mathlib.Core.Bool.{Bool, true, false, not, _&&_, _||_, cond}
+use mathlib.Core.Bool.{Bool, true, _&&_, _||_, cond}
 use mathlib.Core.List.{List, [], _∷_, _++_}
-use Prim.Native.Nat.{ℕ, zero, suc}
+use Prim.Native.Nat.{ℕ, suc}
 use lib.Dec.{T, eqb, leb}
 use lib.ListN.{length}
 use Rattle.floats.specs.Lists.{all, any, filter, count, once}
 use Rattle.lines.specs.Lines.{three, signsAt}
 use Rattle.order.specs.Order.{orderAt}
-use Rattle.ring.specs.Places.{Place, samePlace, fifteen, onLine, Side, lies, sides}
+use Rattle.ring.specs.Places.{Place, samePlace, fifteen, onLine, lies, sides}
 use Rattle.ring.specs.Flags.{cornerIn, found}
 use Rattle.ring.specs.Ring.{Met, inside, leave, enter, entered, met, ring}
 use Rattle.ring.proofs.Walks.{Test, allWalks}

@@ -1,14 +1,13 @@
 -- A test that is computed over all walks, every vertex with one of the seven signs and every edge in one of its admissible orders, holds of the
 -- walk of any outcomes of the pair tests. So a new fact about rings is one test. Assumes nothing.
-use mathlib.Core.Path.{_≡_, refl}
-use mathlib.Core.Bool.{Bool, true, false}
+use mathlib.Core.Bool.{Bool}
 use mathlib.Core.List.{List, [], _∷_, List·Memᴰ}
 use Prim.Native.Nat.{ℕ}
 use lib.Dec.{T, ltb}
 use Rattle.floats.specs.Lists.{all}
 use Rattle.floats.proofs.Lists.{all-at}
 use Rattle.lines.specs.Lines.{sign, start, finish}
-use Rattle.order.specs.Order.{orderAlong, decidedOn, ordersOf, admissibleOrders}
+use Rattle.order.specs.Order.{decidedOn, ordersOf, admissibleOrders}
 use Rattle.order.proofs.Every.{seven, eight}
 use Rattle.order.proofs.Edge.{order-listed}
 

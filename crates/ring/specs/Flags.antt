@@ -1,12 +1,12 @@
 -- 01, "Flags, ring and area": the flags. u i are the signs of vertex i; edge e meets its lines in the order o e. Definitions only.
-use mathlib.Core.Bool.{Bool, true, false, _&&_, _||_}
-use mathlib.Core.List.{List, [], _∷_, map}
+use mathlib.Core.Bool.{Bool, _&&_, _||_}
+use mathlib.Core.List.{List, map}
 use Prim.Native.Nat.{ℕ}
 use lib.Dec.{eqb}
 use Rattle.floats.specs.Lists.{all, any}
 use Rattle.lines.specs.Lines.{lines, three, lowerLine, upperLine}
-use Rattle.lines.specs.Crossings.{Crossing, onEdge}
-use Rattle.lines.specs.Round.{crossingsOf, crossings, cornerBy}
+use Rattle.lines.specs.Crossings.{onEdge}
+use Rattle.lines.specs.Round.{crossingsOf, cornerBy}
 use Rattle.ring.specs.Places.{Place, vertex, corner, crossing, onLine}
 
 module _ (u : ℕ → ℕ → Bool) (o : ℕ → List ℕ) where

@@ -1,6 +1,6 @@
 -- The fifteen places that a corner of the ring can be, and the edges of either triangle that a place lies on. Definitions only.
-use mathlib.Core.Bool.{Bool, true, false, _&&_, _||_}
-use mathlib.Core.List.{List, [], _∷_, _++_, map}
+use mathlib.Core.Bool.{Bool, false, _&&_, _||_}
+use mathlib.Core.List.{List, _++_, map}
 use Prim.Native.Nat.{ℕ}
 use lib.Dec.{eqb}
 use Rattle.lines.specs.Lines.{three, lowerLine, upperLine, start, finish}

@@ -1,5 +1,5 @@
 -- 01, "Flags, ring and area": the ring, as the walk U0, U1, U2, U0 finds it. Definitions only.
-use mathlib.Core.Bool.{Bool, true, false, not, cond}
+use mathlib.Core.Bool.{Bool, not, cond}
 use mathlib.Core.List.{List, [], _∷_, _++_, map}
 use Prim.Native.Nat.{ℕ}
 use lib.Dec.{eqb}

@@ -1,8 +1,8 @@
 -- The twelve cases, shown of the rules themselves: one computed test over the list, and what it says of each case. Assumes nothing.
-use mathlib.Core.Path.{_≡_, refl}
-use mathlib.Core.Bool.{Bool, true, false, _&&_, Bool·beq}
-use mathlib.Core.List.{List, [], _∷_, _++_, List·Memᴰ}
-use Prim.Native.Nat.{ℕ, _*_}
+use mathlib.Core.Path.{_≡_}
+use mathlib.Core.Bool.{Bool, _&&_, Bool·beq}
+use mathlib.Core.List.{List, _++_, List·Memᴰ}
+use Prim.Native.Nat.{_*_}
 use lib.Dec.{T, eqb, eqb→eq}
 use lib.ListN.{length, drop}
 use lib.Ieee.{Float, add, sub, mul, div, neg, lt, le, eq, ofInt, ofBits}
@@ -10,7 +10,6 @@ use lib.Ieee.Fits.{and-l, and-r}
 use Rattle.floats.specs.Lists.{all, sameList}
 use Rattle.floats.proofs.Lists.{all-at, same-bool, same-list}
 use Rattle.floats.proofs.Same.{sameFloat, same-float}
-use Rattle.triangles.specs.declared.Answer.{Answer}
 use Rattle.triangles.specs.Answers.{Whole, wholeOf}
 use Rattle.triangles.specs.Cases.{Case, cases, lent, Shown}
 use Rattle.triangles.specs.Edges.{witnesses}

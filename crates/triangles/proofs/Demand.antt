@@ -1,11 +1,11 @@
 -- Demand 3 of every answer that is no refusal: the ring's own theorem, read in the answer's n, flags and room. Assumes nothing.
-use mathlib.Core.Path.{_≡_, refl, sym, ap, subst, _∙_}
-use mathlib.Core.Bool.{Bool, true, false, _&&_}
-use mathlib.Core.List.{List, [], _∷_, _++_, map, List·Memᴰ}
-use Prim.Native.Nat.{ℕ, zero, suc, _+_, _*_, _<_}
+use mathlib.Core.Path.{_≡_, refl, sym, ap, _∙_}
+use mathlib.Core.Bool.{Bool, false, _&&_}
+use mathlib.Core.List.{List, [], _∷_, List·Memᴰ}
+use Prim.Native.Nat.{ℕ, zero, suc, _*_, _<_}
 use native.Mathlib.Omega.{arith}
 use lib.Dec.{T, ltb, ltb→lt}
-use lib.ListN.{getD, length, take, drop, length-map}
+use lib.ListN.{getD, length, take, length-map}
 use lib.Seq.{take-at}
 use lib.Ieee.{Float}
 use Rattle.floats.specs.Lists.{all, once}
@@ -16,13 +16,11 @@ use Rattle.lines.specs.Lines.{three, lowerLine, upperLine}
 use Rattle.lines.specs.Round.{cornerBy}
 use Rattle.ring.specs.Places.{Place, vertex, corner, crossing, fifteen}
 use Rattle.ring.specs.Flags.{vertexIn, cornerIn, found as foundPlace, verticesIn, cornersIn}
-use Rattle.ring.specs.Ring.{ring}
 use Rattle.ring.specs.Demand.{Holds, Sound}
 use Rattle.ring.proofs.Demand.{demand3 as ring-demand3}
-use Rattle.triangles.specs.declared.Answer.{Answer}
 use Rattle.triangles.specs.Pair.{signsOf, outcomesOf, ordersOfEdges, signsBy, ordersBy, carriedBy, ringOf}
 use Rattle.triangles.specs.Positions.{positionOf, cornersOf, valuesOfCorners}
-use Rattle.triangles.specs.Answers.{Whole, wholeOf, answered, found, written}
+use Rattle.triangles.specs.Answers.{wholeOf, answered, found, written}
 use Rattle.triangles.specs.Demand.{foundIn, Demand3}
 use Rattle.triangles.proofs.Rows.{number-is, answered-is}
 

@@ -1,30 +1,29 @@
 -- What an answer holds is finite: a copied coordinate since the row of coordinates did not apply, a crossing's coordinate and the area since each
 -- is the last value on its own way. Assumes nothing.
-use mathlib.Core.Path.{_≡_, refl, sym, ap, _∙_}
-use mathlib.Core.Logic.{_⊎_, inl, inr}
-use mathlib.Core.Bool.{Bool, true, false, not, _&&_, cond, false≢true}
+use mathlib.Core.Path.{_≡_, refl, sym, _∙_}
+use mathlib.Core.Logic.{inl}
+use mathlib.Core.Bool.{Bool, true, false, cond}
 use mathlib.Core.List.{List, [], _∷_, _++_, map}
 use Prim.Native.Nat.{ℕ, _+_, _-_, _*_, _<_}
 use native.Mathlib.Omega.{arith}
 use lib.Dec.{T, eqb, ltb→lt}
 use lib.Ieee.{Float, nan, ofBits}
 use lib.Ieee.Fits.{and-i, and-l, and-r}
-use lib.ListN.{length, getD, take}
+use lib.ListN.{length, getD}
 use borrow.Author.Tests.{eqb-true, eqb-false}
 use Rattle.floats.specs.Lists.{all}
 use Rattle.floats.specs.Finite.{finite}
-use Rattle.floats.specs.Numbers.{Numbers, Point}
+use Rattle.floats.specs.Numbers.{Point}
 use Rattle.floats.specs.Way.{Way, given, step, _⊕_, _⊖_, _⊗_, negated, fine, f64}
 use Rattle.floats.proofs.Lists.{so, os, all-at, all-of, all-getD, all-append, fails-at}
 use Rattle.floats.proofs.Told.{fine-step}
 use Rattle.lines.specs.Lines.{start, finish}
-use Rattle.lines.specs.Parameters.{Parameters, parameter}
+use Rattle.lines.specs.Parameters.{parameter}
 use Rattle.ring.specs.Places.{Place, vertex, corner, crossing, fifteen}
-use Rattle.triangles.specs.declared.Answer.{Answer}
 use Rattle.triangles.specs.Pair.{vertexOf, carriedBy, signsBy, ringOf}
 use Rattle.triangles.specs.Positions.{fraction, crossingAt, positionOf, cornersOf, valuesOfCorners, sumTo, half, areaOf}
 use Rattle.triangles.specs.Refusals.{Row, lengths, coordinates, position, area, wayToPositions, wayOf, refusalOf}
-use Rattle.triangles.specs.Answers.{Whole, wholeOf, answered, found, written}
+use Rattle.triangles.specs.Answers.{wholeOf, answered, found}
 use Rattle.triangles.specs.Rows.{NotFinite, Applies}
 use Rattle.triangles.specs.Promise.{FiniteAnswer}
 use Rattle.triangles.proofs.Rows.{by-none, number-is, answered-is}

@@ -1,9 +1,9 @@
 -- The lent room keeps its length, and what lies beyond the corners: an answer has at most six corners, and a room of under twelve values is
 -- refused. Assumes nothing.
 use mathlib.Core.Path.{_≡_, refl, ap, _∙_}
-use mathlib.Core.Logic.{_⊎_, inl, inr}
+use mathlib.Core.Logic.{inl, inr}
 use mathlib.Core.Bool.{Bool, true, false}
-use mathlib.Core.List.{List, [], _∷_, _++_}
+use mathlib.Core.List.{List}
 use Prim.Native.Nat.{ℕ, _*_, _≤_}
 use native.Mathlib.Omega.{arith}
 use lib.Dec.{eqb, ltb}
@@ -11,13 +11,11 @@ use lib.ListN.{length, drop, length-append, length-drop}
 use lib.Seq.{drop-at}
 use lib.Ieee.{Float}
 use borrow.Author.Tests.{eqb-true, eqb-false, ltb-true, ltb-false}
-use Rattle.ring.specs.Demand.{NoneOrThreeToSix, Sound}
-use Rattle.triangles.specs.declared.Answer.{Answer}
+use Rattle.ring.specs.Demand.{NoneOrThreeToSix}
 use Rattle.triangles.specs.Pair.{ringOf}
 use Rattle.triangles.specs.Positions.{cornersOf, valuesOfCorners}
-use Rattle.triangles.specs.Refusals.{Row, lengths, refusalOf}
-use Rattle.triangles.specs.Answers.{Whole, wholeOf, answered, found, written}
-use Rattle.triangles.specs.Rows.{Applies}
+use Rattle.triangles.specs.Refusals.{lengths, refusalOf}
+use Rattle.triangles.specs.Answers.{answered, found, written}
 use Rattle.triangles.specs.Promise.{RestKept}
 use Rattle.triangles.proofs.Rows.{by-none, refused-is, answered-is}
 use Rattle.triangles.proofs.Demand.{sound, count-of-values}

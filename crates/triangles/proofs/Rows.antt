@@ -1,9 +1,9 @@
 -- A row's test holds exactly if the row applies, so the cascade's number is that of the first row that applies. Assumes nothing.
 use mathlib.Core.Path.{_≡_, refl, sym, ap, subst, _∙_}
 use mathlib.Core.Logic.{_⊎_, inl, inr, _↔_}
-use mathlib.Core.Bool.{Bool, true, false, not, _&&_, _||_, cond, false≢true, or-true}
+use mathlib.Core.Bool.{Bool, true, false, not, _||_, false≢true, or-true}
 use mathlib.Core.List.{List, [], _∷_, _++_, List·Memᴰ, List·Memᴰ·head as here, List·Memᴰ·tail as there, List·Memᴰ·cases-cons, List·Memᴰ·not-nil}
-use Prim.Native.Nat.{ℕ, zero, suc, _<_, _≤_}
+use Prim.Native.Nat.{ℕ, zero, suc, _<_}
 use native.Mathlib.Omega.{arith}
 use lib.Dec.{eqb, ltb}
 use lib.ListN.{length, getD, length-append, List·getD-append}
@@ -13,9 +13,8 @@ use borrow.Author.Tests.{eqb-true, eqb-false, eq-eqb, ne-eqb, ltb-true, ltb-fals
 use Rattle.floats.specs.Lists.{all}
 use Rattle.floats.specs.Finite.{finite}
 use Rattle.floats.proofs.Lists.{fails-at, fails-all}
-use Rattle.triangles.specs.declared.Answer.{Answer}
 use Rattle.triangles.specs.Refusals.{Row, lengths, coordinates, wayToD, dZero, wayToE, eZero, parameter, pairTest, position, area, table, numberOf, wayOf, notAllFinite, holds, firstOf, refusalOf}
-use Rattle.triangles.specs.Answers.{Whole, wholeOf, refused, answered, found}
+use Rattle.triangles.specs.Answers.{wholeOf, refused, answered, found}
 use Rattle.triangles.specs.Rows.{NotFinite, Applies, placeOf, First, RefusedBy, NoRow, ExactlyWhen}
 
 -- ---- each test against its row

@@ -8,8 +8,7 @@ use lib.IntN.{ℤ, pos, negsuc}
 use lib.ListN.{length, drop, replicate, set}
 use lib.Ieee.{Float, nan, binary64, ofInt, ofBits}
 use Rattle.lines.specs.Lines.{lines}
-use Rattle.triangles.specs.declared.Answer.{Answer}
-use Rattle.triangles.specs.Answers.{Whole, wholeOf, noFlags}
+use Rattle.triangles.specs.Answers.{wholeOf, noFlags}
 
 -- a whole number as f64: `pos k` is k, `negsuc k` is −(k + 1)
 abbrev pub whole : ℤ → Float

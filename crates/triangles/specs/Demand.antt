@@ -1,8 +1,8 @@
 -- Demand 3 of an answer that is no refusal, in its own n, flags and room. Positions may coincide. Statements only.
 use mathlib.Core.Path.{_≡_}
 use mathlib.Core.Logic.{_⊎_}
-use mathlib.Core.Bool.{Bool, true, false}
-use mathlib.Core.List.{List, [], _∷_, map, List·Memᴰ}
+use mathlib.Core.Bool.{Bool, false}
+use mathlib.Core.List.{List, map, List·Memᴰ}
 use Prim.Native.Nat.{ℕ, _*_}
 use lib.ListN.{getD, length, take}
 use lib.Ieee.{Float}
@@ -14,7 +14,7 @@ use Rattle.ring.specs.Demand.{NoneOrThreeToSix, Holds, Closed}
 use Rattle.triangles.specs.declared.Answer.{Answer}
 use Rattle.triangles.specs.Pair.{signsBy, ordersBy}
 use Rattle.triangles.specs.Positions.{positionOf, valuesOfCorners}
-use Rattle.triangles.specs.Answers.{Whole, wholeOf}
+use Rattle.triangles.specs.Answers.{wholeOf}
 
 -- found inside by the answer's own flag, or found on V's edge
 abbrev pub foundIn : List Float → Answer → Place → Bool

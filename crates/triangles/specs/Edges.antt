@@ -1,7 +1,7 @@
 -- Pairs at the edges of the rules, as a second list of cases: what is refused at which stage, what is not reached and so refuses nothing, and
 -- what keeps its bits. The values are bit patterns; the answers come from an independent program that was written from 01 alone.
 -- Definitions only.
-use mathlib.Core.Bool.{Bool, true, false}
+use mathlib.Core.Bool.{true, false}
 use mathlib.Core.List.{List, [], _∷_, map}
 use Prim.Native.Nat.{ℕ}
 use lib.Ieee.{Float, binary64, ofBits}

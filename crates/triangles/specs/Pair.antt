@@ -1,13 +1,13 @@
 -- 01, "Numbers and lines" to "Flags, ring and area", of one pair of triangles: U0x, U0y, .. V2y. Every list has these, of whatever length.
 -- Definitions only.
-use mathlib.Core.Bool.{Bool, true, false}
-use mathlib.Core.List.{List, [], _∷_, _++_, map}
+use mathlib.Core.Bool.{Bool}
+use mathlib.Core.List.{List, _++_, map}
 use Prim.Native.Nat.{ℕ, _+_, _*_}
 use lib.ListN.{getD}
 use lib.Ieee.{Float, nan}
 use Rattle.floats.specs.Numbers.{Point}
 use Rattle.floats.specs.Way.{Way, f64, givenPoint}
-use Rattle.lines.specs.Lines.{three, signsAt}
+use Rattle.lines.specs.Lines.{signsAt}
 use Rattle.lines.specs.declared.Params.{Params}
 use Rattle.lines.specs.Parameters.{Parameters, dOf, eOf, parameters, carried, valuesOf}
 use Rattle.order.specs.PairTest.{signsOfU, testOn, outcomesOn}

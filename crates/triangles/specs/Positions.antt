@@ -1,14 +1,14 @@
 -- 01, "Flags, ring and area": positions and area. Definitions only.
-use mathlib.Core.Bool.{Bool, true, false, cond}
+use mathlib.Core.Bool.{cond}
 use mathlib.Core.List.{List, [], _∷_, map}
 use Prim.Native.Nat.{ℕ, zero, suc, _+_, _-_}
 use lib.ListN.{getD, length}
 use lib.Ieee.{Float, nan, binary64, ofBits}
 use Rattle.floats.specs.Finite.{nought}
-use Rattle.floats.specs.Numbers.{Numbers, Point, crossFrom}
+use Rattle.floats.specs.Numbers.{Point, crossFrom}
 use Rattle.floats.specs.Way.{Way, given, _⊕_, _⊖_, _⊗_, _⊘_, negated, f64, givenPoint}
 use Rattle.lines.specs.Lines.{start, finish}
-use Rattle.lines.specs.Parameters.{Parameters, parameter}
+use Rattle.lines.specs.Parameters.{parameter}
 use Rattle.ring.specs.Places.{Place, vertex, corner, crossing}
 use Rattle.triangles.specs.Pair.{vertexOf, cornerOf, paramsOf, carriedBy, signsOf, signsBy, ringOf}
 

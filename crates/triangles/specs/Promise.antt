@@ -8,7 +8,7 @@ use lib.Ieee.{Float}
 use Rattle.floats.specs.Lists.{all}
 use Rattle.floats.specs.Finite.{finite}
 use Rattle.triangles.specs.declared.Answer.{Answer}
-use Rattle.triangles.specs.Answers.{Whole, wholeOf}
+use Rattle.triangles.specs.Answers.{wholeOf}
 
 -- of the values and the room lent, the result and the room afterwards
 pub record Promise (values room : List Float) (result : Answer) (after : List Float) : Type 0 where

@@ -1,5 +1,5 @@
 -- 01, "Lent memory and refusals, triangles": the table, row by row, and its tests in their order. Definitions only.
-use mathlib.Core.Bool.{Bool, true, false, not, _||_, cond}
+use mathlib.Core.Bool.{Bool, not, _||_, cond}
 use mathlib.Core.List.{List, [], _∷_, _++_}
 use Prim.Native.Nat.{ℕ}
 use lib.Dec.{eqb, ltb}
@@ -7,7 +7,7 @@ use lib.ListN.{length}
 use lib.Ieee.{Float}
 use Rattle.floats.specs.Lists.{all}
 use Rattle.floats.specs.Finite.{finite}
-use Rattle.floats.specs.Numbers.{Numbers, Point}
+use Rattle.floats.specs.Numbers.{Point}
 use Rattle.floats.specs.Way.{Way, f64}
 use Rattle.lines.specs.Parameters.{Parameters}
 use Rattle.triangles.specs.Pair.{d, e, parametersOf, testsOf, pairTestOf}

@@ -1,13 +1,12 @@
 -- The rows of the refusal table as predicates, apart from the tests and their cascade, and when an answer has a number. Statements only.
 use mathlib.Core.Path.{_≡_}
 use mathlib.Core.Logic.{_⊎_, _↔_}
-use mathlib.Core.Bool.{Bool, true, false}
+use mathlib.Core.Bool.{true, false}
 use mathlib.Core.List.{List, [], _∷_, List·Memᴰ}
 use Prim.Native.Nat.{ℕ, _<_}
 use lib.ListN.{length}
 use lib.Ieee.{Float, eq, binary64, ofBits}
 use Rattle.floats.specs.Finite.{finite, nought}
-use Rattle.triangles.specs.declared.Answer.{Answer}
 use Rattle.triangles.specs.Pair.{d, e}
 use Rattle.triangles.specs.Refusals.{Row, lengths, coordinates, wayToD, dZero, wayToE, eZero, parameter, pairTest, position, area, numberOf, wayOf}
 use Rattle.triangles.specs.Answers.{Whole, wholeOf}
