@@ -1,7 +1,7 @@
 -- 01, "Numbers and lines" and "Crossings and their order along an edge": lines, corners, edges and signs by number. Definitions only.
 use mathlib.Core.Bool.{Bool, false}
 use mathlib.Core.List.{List, [], _∷_}
-use Prim.Native.Nat.{ℕ, zero, suc}
+use Prim.Native.Nat.{ℕ, zero, suc, min, max}
 use lib.ListN.{getD}
 
 -- m numbers from i on
@@ -44,6 +44,13 @@ start e = getD (getD endTable e []) 0 0
 
 abbrev pub finish : ℕ → ℕ
 finish e = getD (getD endTable e []) 1 0
+
+-- the same two, by their numbers
+abbrev pub lowerEnd : ℕ → ℕ
+lowerEnd e = min (start e) (finish e)
+
+abbrev pub higherEnd : ℕ → ℕ
+higherEnd e = max (start e) (finish e)
 
 -- of a vertex's signs the one on line a; true is plus
 abbrev pub sign : List Bool → ℕ → Bool

@@ -2,9 +2,9 @@
 -- ps i are the parameters of vertex i.
 use mathlib.Core.Bool.{Bool, cond, Bool·beq}
 use mathlib.Core.List.{List, map}
-use Prim.Native.Nat.{ℕ, min, max}
+use Prim.Native.Nat.{ℕ}
 use Rattle.floats.specs.Numbers.{Numbers, cross}
-use Rattle.lines.specs.Lines.{three, sign, start, finish, lowerLine, upperLine}
+use Rattle.lines.specs.Lines.{three, sign, lowerEnd, higherEnd, lowerLine, upperLine}
 use Rattle.lines.specs.Parameters.{Parameters, parameter, signs}
 
 module _ (K : Numbers) where
@@ -25,9 +25,9 @@ module _ (K : Numbers) where
 
   -- the pair test of lines a < b on edge e: whichever way the edge runs, its lower vertex comes first
   abbrev pub testOn : (ℕ → Parameters (K .N)) → ℕ → ℕ → ℕ → K .N
-  testOn ps e a b = pairD (ps (min (start e) (finish e))) (ps (max (start e) (finish e))) a b
+  testOn ps e a b = pairD (ps (lowerEnd e)) (ps (higherEnd e)) a b
 
   -- what the pair tests on edge e say, by the corner on their two lines: the lower line is met first
   unfoldable pub outcomesOn : (ℕ → Parameters (K .N)) → ℕ → List Bool
   unfolding metFirst
-  outcomesOn ps e = map (λ k. metFirst (ps (min (start e) (finish e))) (ps (max (start e) (finish e))) (lowerLine k) (upperLine k)) three
+  outcomesOn ps e = map (λ k. metFirst (ps (lowerEnd e)) (ps (higherEnd e)) (lowerLine k) (upperLine k)) three

@@ -18,7 +18,7 @@ use Rattle.ring.specs.Places.{Place, vertex, corner, crossing, fifteen}
 use Rattle.ring.specs.Flags.{vertexIn, cornerIn, found as foundPlace, verticesIn, cornersIn}
 use Rattle.ring.specs.Demand.{Holds, Sound}
 use Rattle.ring.proofs.Demand.{demand3 as ring-demand3}
-use Rattle.triangles.specs.Pair.{signsOf, outcomesOf, ordersOfEdges, signsBy, ordersBy, carriedBy, ringOf}
+use Rattle.triangles.specs.Pair.{vertexSigns, outcomesOf, edgeOrders, signsBy, ordersBy, carriedBy, ringOf}
 use Rattle.triangles.specs.Positions.{positionOf, cornersOf, valuesOfCorners}
 use Rattle.triangles.specs.Answers.{wholeOf, answered, found, written}
 use Rattle.triangles.specs.Demand.{foundIn, Demand3}
@@ -45,7 +45,7 @@ below-three k m = ltb→lt k 3 (all-at (λ k. ltb k 3) three (unfold all in tt) 
 
 module _ (l : List Float) where
   pub sound : Sound (signsBy l) (ordersBy l)
-  unfolding signsOf outcomesOf ordersOfEdges
+  unfolding vertexSigns outcomesOf edgeOrders
   sound = ring-demand3 f64 (carriedBy l)
 
   -- the values of the corners, two for each of the ring's places

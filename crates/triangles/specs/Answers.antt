@@ -9,7 +9,7 @@ use Rattle.floats.specs.Finite.{nought}
 use Rattle.ring.specs.Places.{Place}
 use Rattle.ring.specs.Flags.{verticesIn, cornersIn, neighbours}
 use Rattle.triangles.specs.declared.Answer.{Answer}
-use Rattle.triangles.specs.Pair.{signsOf, ordersOfEdges, signsBy, ordersBy, ringOf, testsOf}
+use Rattle.triangles.specs.Pair.{vertexSigns, edgeOrders, signsBy, ordersBy, ringOf, testsOf}
 use Rattle.triangles.specs.Positions.{cornersOf, valuesOfCorners, areaOf}
 use Rattle.triangles.specs.Refusals.{refusalOf}
 
@@ -33,7 +33,7 @@ refused k room = record { answer = refusal k; room = room; ring = []; tests = []
 
 -- number 0, n, the area and the nine flags
 unfoldable pub found : List Float → Answer
-unfolding signsOf ordersOfEdges ringOf cornersOf areaOf verticesIn cornersIn neighbours
+unfolding vertexSigns edgeOrders ringOf cornersOf areaOf verticesIn cornersIn neighbours
 found l = record {
   number = 0;
   n = length (ringOf l);

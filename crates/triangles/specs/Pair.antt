@@ -44,9 +44,9 @@ module _ (l : List Float) where
   carriedBy i = carried (paramsOf i)
 
   -- the signs of U's vertices
-  unfoldable pub signsOf : List (List Bool)
+  unfoldable pub vertexSigns : List (List Bool)
   unfolding paramsOf signsOfU
-  signsOf = signsOfU f64 carriedBy
+  vertexSigns = signsOfU f64 carriedBy
 
   -- the outcomes of edge e's pair tests, its order, and the pair tests computed to find it
   unfoldable pub outcomesOf : ℕ → List Bool
@@ -54,23 +54,23 @@ module _ (l : List Float) where
   outcomesOf e = outcomesOn f64 carriedBy e
 
   unfoldable pub decidedOf : ℕ → Decided
-  unfolding signsOf outcomesOf decidedOn
-  decidedOf e = decidedOn signsOf outcomesOf e
+  unfolding vertexSigns outcomesOf decidedOn
+  decidedOf e = decidedOn vertexSigns outcomesOf e
 
-  unfoldable pub ordersOfEdges : List (List ℕ)
-  unfolding signsOf outcomesOf ordersOf
-  ordersOfEdges = ordersOf signsOf outcomesOf
+  unfoldable pub edgeOrders : List (List ℕ)
+  unfolding vertexSigns outcomesOf ordersOf
+  edgeOrders = ordersOf vertexSigns outcomesOf
 
   -- the signs of vertex i, and the order along edge e, as the ring takes them
   abbrev pub signsBy : ℕ → ℕ → Bool
-  signsBy = signsAt signsOf
+  signsBy = signsAt vertexSigns
 
   abbrev pub ordersBy : ℕ → List ℕ
-  ordersBy = orderAt ordersOfEdges
+  ordersBy = orderAt edgeOrders
 
   -- the ring's places
   unfoldable pub ringOf : List Place
-  unfolding signsOf ordersOfEdges ring
+  unfolding vertexSigns edgeOrders ring
   ringOf = ring signsBy ordersBy
 
   -- the pair tests computed on edge e, each with its edge

@@ -10,7 +10,7 @@ use Rattle.floats.specs.Way.{Way, given, _⊕_, _⊖_, _⊗_, _⊘_, negated, f
 use Rattle.lines.specs.Lines.{start, finish}
 use Rattle.lines.specs.Parameters.{parameter}
 use Rattle.ring.specs.Places.{Place, vertex, corner, crossing}
-use Rattle.triangles.specs.Pair.{vertexOf, cornerOf, paramsOf, carriedBy, signsOf, signsBy, ringOf}
+use Rattle.triangles.specs.Pair.{vertexOf, cornerOf, paramsOf, carriedBy, vertexSigns, signsBy, ringOf}
 
 -- how far the crossing lies from P towards Q, by its line's parameter at either: a_P / (a_P − a_Q)
 abbrev pub fraction : Way → Way → Way
@@ -28,7 +28,7 @@ module _ (l : List Float) where
 
   -- a vertex and a corner stand where the input has them; a crossing is reckoned from the end of its edge that is plus on its line
   unfoldable pub positionOf : Place → Point Way
-  unfolding signsOf crossingAt
+  unfolding vertexSigns crossingAt
   positionOf (vertex i) = vertexOf l i
   positionOf (corner k) = cornerOf l k
   positionOf (crossing e a) = cond (signsBy l (start e) a) (crossingAt a (start e) (finish e)) (crossingAt a (finish e) (start e))
@@ -55,7 +55,8 @@ sumTo cs (suc m) = sumTo cs m ⊕ crossFrom f64 (cornerAt cs 0) (cornerAt cs (m 
 abbrev pub half : Float
 half = ofBits binary64 0x3fe0_0000_0000_0000
 
--- half of the sum over all corners, which n corners make n − 2 crosses, with its sign turned where it is negative; 0.0 without corners
+-- n corners have n − 2 such crosses; the area is half their sum, or half of it with its sign turned where it is below zero. Without corners it
+-- is 0.0
 unfoldable pub areaOf : List (Point Way) → Way
 unfolding sumTo
 areaOf [] = given nought
