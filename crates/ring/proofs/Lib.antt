@@ -1,3 +1,4 @@
 pub mod Walks
 pub mod Sweep
 pub mod Demand
+pub mod Sizes
