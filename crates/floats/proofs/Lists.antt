@@ -9,7 +9,7 @@ use native.Mathlib.Omega.{arith}
 use lib.Dec.{T, eqb, eqb→eq}
 use lib.Ieee.Fits.{and-i, and-l, and-r}
 use lib.ListN.{length, getD}
-use Rattle.floats.specs.Lists.{all, any, filter, count, sameList}
+use Rattle.floats.specs.Lists.{all, any, filter, count}
 
 pub so : {b : Bool} → T b → b ≡ true
 so {b} t = go b t
@@ -102,6 +102,13 @@ count-append f (x ∷ xs) ys = go (f x) (count-append f xs ys)
     go : (b : Bool) → count f (xs ++ ys) ≡ count f xs + count f ys → cond b (suc (count f (xs ++ ys))) (count f (xs ++ ys)) ≡ cond b (suc (count f xs)) (count f xs) + count f ys
     go true h = omega arith
     go false h = h
+
+-- two lists are the same, element by element
+unfoldable pub sameList : {A : Type 0} → (A → A → Bool) → List A → List A → Bool
+sameList same [] [] = true
+sameList same [] (y ∷ ys) = false
+sameList same (x ∷ xs) [] = false
+sameList same (x ∷ xs) (y ∷ ys) = same x y && sameList same xs ys
 
 pub same-list : {A : Type 0} (same : A → A → Bool) → ((a b : A) → T (same a b) → a ≡ b) → (x y : List A) → T (sameList same x y) → x ≡ y
 unfolding sameList

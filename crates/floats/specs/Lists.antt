@@ -28,10 +28,3 @@ once b = cond b 1 0
 -- two truth values are not the same
 abbrev pub differ : Bool → Bool → Bool
 differ p q = not (Bool·beq p q)
-
--- two lists are the same, element by element
-unfoldable pub sameList : {A : Type 0} → (A → A → Bool) → List A → List A → Bool
-sameList same [] [] = true
-sameList same [] (y ∷ ys) = false
-sameList same (x ∷ xs) [] = false
-sameList same (x ∷ xs) (y ∷ ys) = same x y && sameList same xs ys

@@ -8,7 +8,7 @@ pub record Numbers : Type 1 where
   pub minus : N → N → N
   pub times : N → N → N
   pub negate : N → N
-  pub isPlus : N → Bool
+  pub isAtLeastZero : N → Bool
   pub isAtMostZero : N → Bool
   pub isBelowZero : N → Bool
   pub isZero : N → Bool
@@ -27,7 +27,7 @@ module _ (K : Numbers) where
   abbrev pub minusPoint : Point (K .N) → Point (K .N) → Point (K .N)
   minusPoint b a = record { x = K .minus (b .x) (a .x); y = K .minus (b .y) (a .y) }
 
-  -- the cross of b − a and c − a: d, e, the parameters and the terms of the area are of this form
+  -- the cross of b − a and c − a: d, e, x, y and the terms of the area are of this form
   abbrev pub crossFrom : Point (K .N) → Point (K .N) → Point (K .N) → K .N
   crossFrom a b c =
       let r = minusPoint b a in

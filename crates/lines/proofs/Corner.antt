@@ -11,7 +11,7 @@ use Rattle.floats.specs.Lists.{filter, count, once, differ}
 use Rattle.floats.proofs.Lists.{filter-append, each, same-by-three}
 use Rattle.lines.specs.Crossings.{Crossing, flip, walk}
 use Rattle.lines.specs.Round.{apart, crossingsOf, crossings, hits, cornerBy, edgesAcross, Meets, Agrees}
-use Rattle.lines.proofs.Count.{across}
+use Rattle.lines.proofs.Count.{round, across}
 use Rattle.lines.proofs.Two.{seen, unlike, says, say-at, short}
 
 -- ---- from the walk to what two lines see of it
@@ -146,10 +146,10 @@ module _ (u : ℕ → ℕ → Bool) (o : ℕ → List ℕ) (m : Meets u o) where
       go false p = agree-distinct a b (λ h. false≢true (sym p ∙ h))
 
   found-all : (a : ℕ) → length (hits u o a) ≡ edgesAcross u a
-  unfolding edgesAcross count
+  unfolding count
   found-all a =
       ap length (hits-are u o a)
-      ∙ simp (length-append, hits-length, m .edge0, m .edge1, m .edge2) (same-by-three sum nested (unfold each in tt) (differ (u 0 a) (u 1 a)) (differ (u 1 a) (u 2 a)) (differ (u 2 a) (u 0 a)))
+      ∙ simp (length-append, hits-length, m .edge0, m .edge1, m .edge2) (same-by-three sum nested (unfold each in tt) (differ (u 0 a) (u 1 a)) (differ (u 1 a) (u 2 a)) (differ (u 2 a) (u 0 a)) ∙ round u a)
     where
       sum : Bool → Bool → Bool → ℕ
       sum x y z = once x + (once y + once z)

@@ -9,8 +9,8 @@ use native.Mathlib.Nat.{suc-mul, mul-suc}
 use lib.ListN.{length}
 use Rattle.floats.specs.Lists.{count, differ}
 use Rattle.floats.proofs.Lists.{count-append, each, same-by-three}
-use Rattle.lines.specs.Lines.{three}
-use Rattle.lines.specs.Crossings.{edgesOf, splits, crossers}
+use Rattle.lines.specs.Lines.{three, start, finish}
+use Rattle.lines.specs.Crossings.{crosses, edgesOf, splits, crossers}
 use Rattle.lines.specs.Round.{edgesAcross}
 
 -- the edges from a vertex to these
@@ -63,9 +63,9 @@ none-or-two p vs h = go (count p vs) (count (λ v. not (p v)) vs) (total p vs �
     go (suc (suc (suc zero))) n h k = inl (omega (arith, k))
     go (suc (suc (suc (suc m)))) n h k = absurd (omega arith)
 
--- U's edges run round, 0 to 1, 1 to 2, 2 to 0: they cross as often as the edges between its vertices
-round : (u : ℕ → ℕ → Bool) (a : ℕ) → edgesAcross u a ≡ crossers (λ i. u i a) three
-unfolding edgesAcross crossers count edgesOf
+-- U's edges run round, 0 to 1, 1 to 2, 2 to 0: they cross a line as often as the edges between its vertices
+pub round : (u : ℕ → ℕ → Bool) (a : ℕ) → count (λ e. crosses (u (start e)) (u (finish e)) a) three ≡ edgesAcross u a
+unfolding crossers count edgesOf
 round u a = same-by-three ends pairs (unfold each in tt) (u 0 a) (u 1 a) (u 2 a)
   where
     one : Bool → ℕ → ℕ
@@ -79,4 +79,4 @@ round u a = same-by-three ends pairs (unfold each in tt) (u 0 a) (u 1 a) (u 2 a)
 
 -- each line is crossed by none or two edges of U
 pub across : (u : ℕ → ℕ → Bool) (a : ℕ) → (edgesAcross u a ≡ 0) ⊎ (edgesAcross u a ≡ 2)
-across u a = rw round (none-or-two (λ i. u i a) three refl)
+across u a = none-or-two (λ i. u i a) three refl

@@ -14,7 +14,7 @@ unfoldable pub lines : ℕ → List ℕ
 unfolding upFrom
 lines n = upFrom 0 n
 
--- three things by number: U's vertices, its edges, V's corners
+-- the numbers of U's vertices and edges, and of V's corners, edges and lines
 abbrev pub three : List ℕ
 three = 0 ∷ 1 ∷ 2 ∷ []
 
@@ -25,7 +25,7 @@ cornerTable = (0 ∷ 0 ∷ 2 ∷ []) ∷ (0 ∷ 1 ∷ 1 ∷ []) ∷ (2 ∷ 1 ∷
 abbrev pub cornerOn : ℕ → ℕ → ℕ
 cornerOn a b = getD (getD cornerTable a []) b 0
 
--- the same from the corner: its two lines, the lower first
+-- the other way round, from a corner to its two lines, the lower first (that both tables say the same is proved)
 abbrev pub lineTable : List (List ℕ)
 lineTable = (0 ∷ 1 ∷ []) ∷ (1 ∷ 2 ∷ []) ∷ (0 ∷ 2 ∷ []) ∷ []
 

@@ -20,9 +20,9 @@ parameter p a = cond (eqb a 0) (p .x) (cond (eqb a 1) (p .y) (p .w))
 
 -- the signs of a vertex, from the signs of its parameters on all lines but the last, and on the last. Where all the others are minus,
 -- the last one is not looked at and is plus
-unfoldable pub unseen : List Bool → Bool → List Bool
+unfoldable pub lastUnseen : List Bool → Bool → List Bool
 unfolding any
-unseen others last = others ++ ((not (any (λ s. s) others) || last) ∷ [])
+lastUnseen others last = others ++ ((not (any (λ s. s) others) || last) ∷ [])
 
 module _ (K : Numbers) where
   -- d of V's corners, and e of U's vertices: the cross of the differences of the second and the third from the first
@@ -32,7 +32,7 @@ module _ (K : Numbers) where
   abbrev pub eOf : Point (K .N) → Point (K .N) → Point (K .N) → K .N
   eOf u0 u1 u2 = crossFrom K u0 u1 u2
 
-  -- x puts u in the place of V1 in d, y in the place of V2; a negative d turns the signs of all three. w is what x and y leave of d
+  -- x puts u in the place of V1 in d, y in the place of V2. A d below zero has its own sign and theirs turned; then w is what x and y leave of d
   abbrev pub parameters : Point (K .N) → Point (K .N) → Point (K .N) → Point (K .N) → Parameters (K .N)
   parameters v0 v1 v2 u =
       let d = dOf v0 v1 v2 in
@@ -41,10 +41,10 @@ module _ (K : Numbers) where
       let y = turned (crossFrom K v0 v1 u) in
       record { x = x; y = y; w = K .minus (K .minus (turned d) x) y }
 
-  -- a parameter that is ≥ 0 is plus, any other minus, with line 2 unseen where lines 0 and 1 are minus
+  -- a parameter that is ≥ 0 is plus, any other minus; w is the last
   unfoldable pub signs : Parameters (K .N) → List Bool
-  unfolding unseen
-  signs p = unseen (K .isPlus (p .x) ∷ K .isPlus (p .y) ∷ []) (K .isPlus (p .w))
+  unfolding lastUnseen
+  signs p = lastUnseen (K .isAtLeastZero (p .x) ∷ K .isAtLeastZero (p .y) ∷ []) (K .isAtLeastZero (p .w))
 
 -- ---- as the code carries them: three f64 a vertex
 abbrev pub carried : Params → Parameters Way

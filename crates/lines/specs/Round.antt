@@ -8,8 +8,8 @@ use Prim.Native.Nat.{ℕ}
 use lib.Dec.{eqb}
 use lib.ListN.{length}
 use Rattle.floats.specs.Lists.{filter, count, once, differ}
-use Rattle.lines.specs.Lines.{three, start, finish}
-use Rattle.lines.specs.Crossings.{Crossing, crosses, walk}
+use Rattle.lines.specs.Lines.{three, start}
+use Rattle.lines.specs.Crossings.{Crossing, crosses, crossers, walk}
 
 -- two crossings whose signs on b differ
 unfoldable pub apart : ℕ → List Crossing → Bool
@@ -19,6 +19,7 @@ apart b (c ∷ d ∷ []) = differ ((c .signs) b) ((d .signs) b)
 apart b (c ∷ d ∷ e ∷ r) = false
 
 module _ (u : ℕ → ℕ → Bool) (o : ℕ → List ℕ) where
+  -- the crossings of edge e, walked from its start
   unfoldable pub crossingsOf : ℕ → List Crossing
   unfolding walk
   crossingsOf e = walk e (u (start e)) (o e)
@@ -38,10 +39,9 @@ module _ (u : ℕ → ℕ → Bool) (o : ℕ → List ℕ) where
   unfolding apart hits
   cornerBy a b = apart b (hits a)
 
--- how many of U's three edges cross line a
-unfoldable pub edgesAcross : (ℕ → ℕ → Bool) → ℕ → ℕ
-unfolding count
-edgesAcross u a = count (λ e. crosses (u (start e)) (u (finish e)) a) three
+-- how many of the edges between U's vertices cross line a
+abbrev pub edgesAcross : (ℕ → ℕ → Bool) → ℕ → ℕ
+edgesAcross u a = crossers (λ i. u i a) three
 
 -- each edge meets each line that it crosses once, and no other
 pub record Meets (u : ℕ → ℕ → Bool) (o : ℕ → List ℕ) : Type 0 where

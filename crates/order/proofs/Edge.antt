@@ -9,8 +9,8 @@ use lib.Dec.{T, eqb, ltb, eqb→eq, ltb→lt}
 use lib.Ieee.Fits.{and-l, and-r}
 use lib.ListN.{length, List·getD-eq-default}
 use borrow.Author.Tests.{ne-eqb, ltb-true, ltb-false}
-use Rattle.floats.specs.Lists.{all, any, count, once, sameList}
-use Rattle.floats.proofs.Lists.{all-at, any-member, same-list, bools, in-bools}
+use Rattle.floats.specs.Lists.{all, any, count, once}
+use Rattle.floats.proofs.Lists.{all-at, any-member, sameList, same-list, bools, in-bools}
 use Rattle.lines.specs.Lines.{three, sign}
 use Rattle.lines.specs.Crossings.{crosses, admissible}
 use Rattle.order.specs.Order.{Decided, orderAlong, admissibleOrders}

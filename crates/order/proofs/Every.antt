@@ -5,7 +5,7 @@ use native.Mathlib.Omega.{arith}
 use mathlib.Core.Bool.{Bool, true, false}
 use mathlib.Core.List.{List, [], _∷_, List·Memᴰ, List·Memᴰ·head as here, List·Memᴰ·tail as there}
 use Rattle.lines.specs.Lines.{three}
-use Rattle.lines.specs.Parameters.{unseen}
+use Rattle.lines.specs.Parameters.{lastUnseen}
 
 -- the seven signs of a vertex: none is minus on all three lines
 unfoldable pub seven : List (List Bool)
@@ -24,8 +24,8 @@ unfoldable pub eight : List (List Bool)
 unfolding seven
 eight = (false ∷ false ∷ false ∷ []) ∷ seven
 
-pub in-seven : (x y w : Bool) → List·Memᴰ (unseen (x ∷ y ∷ []) w) seven
-unfolding unseen seven
+pub in-seven : (x y w : Bool) → List·Memᴰ (lastUnseen (x ∷ y ∷ []) w) seven
+unfolding lastUnseen seven
 in-seven true true true = here refl
 in-seven true true false = there (here refl)
 in-seven true false true = there (there (here refl))

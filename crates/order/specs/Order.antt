@@ -17,28 +17,8 @@ pub record Decided : Type 0 where
 abbrev pub decided : List ℕ → List (ℕ × ℕ) → Decided
 decided o ts = record { order = o; tests = ts }
 
--- every way to put x into a list, and every order of a list
-unfoldable pub insertions : ℕ → List ℕ → List (List ℕ)
-insertions x [] = (x ∷ []) ∷ []
-insertions x (y ∷ ys) = (x ∷ y ∷ ys) ∷ map (λ l. y ∷ l) (insertions x ys)
-
-unfoldable pub everyInsertion : ℕ → List (List ℕ) → List (List ℕ)
-unfolding insertions
-everyInsertion x [] = []
-everyInsertion x (l ∷ ls) = insertions x l ++ everyInsertion x ls
-
-unfoldable pub arrangements : List ℕ → List (List ℕ)
-unfolding everyInsertion
-arrangements [] = [] ∷ []
-arrangements (x ∷ xs) = everyInsertion x (arrangements xs)
-
--- the admissible orders of an edge from the signs p to the signs q: those with no stretch that is minus on all lines
-unfoldable pub admissibleOrders : ℕ → (ℕ → Bool) → (ℕ → Bool) → List (List ℕ)
-unfolding filter arrangements admissible crossed
-admissibleOrders n p q = filter (admissible n p) (arrangements (crossed n p q))
-
--- line a is met before line b, by the outcomes t. A pair test speaks of the lower line and as seen from the lower vertex, so its word is
--- turned where a is the higher line, and where the walk goes back from the higher vertex
+-- line a is met before line b, by the outcomes t of an edge: the outcome of the two, turned once if a is the higher line, and once more if the
+-- walk starts at the edge's higher vertex (back)
 unfoldable pub before : List Bool → Bool → ℕ → ℕ → Bool
 before t back a b = differ back (differ (ltb b a) (getD t (cornerOn a b) false))
 
@@ -56,8 +36,8 @@ two first s a b =
     (cond (ba && not ab) (decided (b ∷ a ∷ []) [])
     (cond (first a b) (decided (a ∷ b ∷ []) (pairOf a b ∷ [])) (decided (b ∷ a ∷ []) (pairOf a b ∷ []))))
 
--- three lines crossed, seen from a vertex that is minus on c alone, with a < b the two others. Is a before c, then c lies between a and b.
--- If not, is b before c, then c lies between them again, from b. If neither is, c leads, and only then a and b are told apart
+-- three lines crossed, seen from a vertex that is minus on c alone, with a < b the two others. If a is before c: a, c, b. If not, and b is
+-- before c: b, c, a. If neither is: c, and then a and b as their own test has them
 unfoldable pub around : (ℕ → ℕ → Bool) → ℕ → ℕ → ℕ → Decided
 around first c a b =
     cond (first a c) (decided (a ∷ c ∷ b ∷ []) (pairOf a c ∷ []))
@@ -77,14 +57,14 @@ unfoldable pub fromEnd : (ℕ → ℕ → Bool) → (ℕ → Bool) → Decided
 unfolding around minusOf plusOf
 fromEnd first s = around first (getD (minusOf s) 0 0) (getD (plusOf s) 0 0) (getD (plusOf s) 1 0)
 
--- seen from the other end
-abbrev pub turned : Decided → Decided
-turned d = decided (reverse (d .order)) (d .tests)
+-- the same, seen from the other end
+abbrev pub fromOtherEnd : Decided → Decided
+fromOtherEnd d = decided (reverse (d .order)) (d .tests)
 
 -- of the two ends one is minus on one line and one on two: start at the first kind
 unfoldable pub threeLines : List Bool → Bool → (ℕ → Bool) → (ℕ → Bool) → Decided
 unfolding fromEnd minusOf before
-threeLines t back p q = cond (eqb (length (minusOf p)) 1) (fromEnd (before t back) p) (turned (fromEnd (before t (not back)) q))
+threeLines t back p q = cond (eqb (length (minusOf p)) 1) (fromEnd (before t back) p) (fromOtherEnd (fromEnd (before t (not back)) q))
 
 -- by the lines that the edge from p to q crosses
 unfoldable pub decide : List Bool → Bool → (ℕ → Bool) → (ℕ → Bool) → List ℕ → Decided
@@ -111,3 +91,24 @@ ordersOf ss ts = map (λ e. decidedOn ss ts e .order) three
 
 abbrev pub orderAt : List (List ℕ) → ℕ → List ℕ
 orderAt os e = getD os e []
+
+-- ---- all admissible orders, of which the rules above always take one (a law)
+-- every way to put x into a list, and every order of a list
+unfoldable pub insertions : ℕ → List ℕ → List (List ℕ)
+insertions x [] = (x ∷ []) ∷ []
+insertions x (y ∷ ys) = (x ∷ y ∷ ys) ∷ map (λ l. y ∷ l) (insertions x ys)
+
+unfoldable pub everyInsertion : ℕ → List (List ℕ) → List (List ℕ)
+unfolding insertions
+everyInsertion x [] = []
+everyInsertion x (l ∷ ls) = insertions x l ++ everyInsertion x ls
+
+unfoldable pub arrangements : List ℕ → List (List ℕ)
+unfolding everyInsertion
+arrangements [] = [] ∷ []
+arrangements (x ∷ xs) = everyInsertion x (arrangements xs)
+
+-- the admissible orders of an edge from the signs p to the signs q: those with no stretch that is minus on all lines
+unfoldable pub admissibleOrders : ℕ → (ℕ → Bool) → (ℕ → Bool) → List (List ℕ)
+unfolding filter arrangements admissible crossed
+admissibleOrders n p q = filter (admissible n p) (arrangements (crossed n p q))

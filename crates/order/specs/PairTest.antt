@@ -12,22 +12,25 @@ module _ (K : Numbers) where
   abbrev pub pairD : Parameters (K .N) → Parameters (K .N) → ℕ → ℕ → K .N
   pairD p q a b = cross K (parameter p a) (parameter q a) (parameter p b) (parameter q b)
 
-  -- a is met before b, seen from the lower vertex: where it has one sign on both lines that is D ≥ 0, where it has two it is D ≤ 0
-  unfoldable pub metFirst : Parameters (K .N) → Parameters (K .N) → ℕ → ℕ → Bool
-  unfolding signs
-  metFirst p q a b =
-      cond (Bool·beq (sign (signs K p) a) (sign (signs K p) b)) (K .isPlus (pairD p q a b)) (K .isAtMostZero (pairD p q a b))
+  -- whether a is met before b, seen from a vertex with the signs s: D ≥ 0 says so where s is the same on both, D ≤ 0 where it is not
+  unfoldable pub metFirst : List Bool → K .N → ℕ → ℕ → Bool
+  metFirst s D a b = cond (Bool·beq (sign s a) (sign s b)) (K .isAtLeastZero D) (K .isAtMostZero D)
 
   -- the signs of U's three vertices
   unfoldable pub signsOfU : (ℕ → Parameters (K .N)) → List (List Bool)
   unfolding signs
   signsOfU ps = map (λ i. signs K (ps i)) three
 
-  -- the pair test of lines a < b on edge e: whichever way the edge runs, its lower vertex comes first
-  abbrev pub testOn : (ℕ → Parameters (K .N)) → ℕ → ℕ → ℕ → K .N
-  testOn ps e a b = pairD (ps (lowerEnd e)) (ps (higherEnd e)) a b
+  -- D of lines a < b on edge e: whichever way the edge runs, its lower vertex comes first
+  abbrev pub pairDOn : (ℕ → Parameters (K .N)) → ℕ → ℕ → ℕ → K .N
+  pairDOn ps e a b = pairD (ps (lowerEnd e)) (ps (higherEnd e)) a b
 
-  -- what the pair tests on edge e say, by the corner on their two lines: the lower line is met first
+  -- what that pair test says: line a is met before line b, seen from the edge's lower vertex
+  unfoldable pub outcomeOn : (ℕ → Parameters (K .N)) → ℕ → ℕ → ℕ → Bool
+  unfolding signs metFirst
+  outcomeOn ps e a b = metFirst (signs K (ps (lowerEnd e))) (pairDOn ps e a b) a b
+
+  -- the three outcomes on edge e, each in the place of the corner on its two lines
   unfoldable pub outcomesOn : (ℕ → Parameters (K .N)) → ℕ → List Bool
-  unfolding metFirst
-  outcomesOn ps e = map (λ k. metFirst (ps (lowerEnd e)) (ps (higherEnd e)) (lowerLine k) (upperLine k)) three
+  unfolding outcomeOn
+  outcomesOn ps e = map (λ k. outcomeOn ps e (lowerLine k) (upperLine k)) three

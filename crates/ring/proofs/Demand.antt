@@ -115,7 +115,7 @@ module _ (p q r : List Bool) (mp : List·Memᴰ p seven) (mq : List·Memᴰ q se
         agrees = agrees u o meets;
         size = size-is (length (ring u o)) (and-l S (C && (E && W)) t);
         holds = holds-is (found u o) (ring u o) (and-l E W t2) (and-r E W t2);
-        neighbours = closed-is (ring u o) (and-l C (E && W) t3);
+        joined = closed-is (ring u o) (and-l C (E && W) t3);
       }
 
 -- in any numbers, whatever the parameters of U's three vertices

@@ -3,7 +3,7 @@
 use mathlib.Core.Bool.{Bool, true, _&&_, _||_, cond}
 use mathlib.Core.List.{List, [], _∷_, _++_}
 use Prim.Native.Nat.{ℕ, suc}
-use lib.Dec.{T, eqb, leb}
+use lib.Dec.{T, eqb, leb, ltb}
 use lib.ListN.{length}
 use Rattle.floats.specs.Lists.{all, any, filter, count, once}
 use Rattle.lines.specs.Lines.{three, signsAt}
@@ -50,7 +50,8 @@ unfolding allWalks sound
 all-sound = tt
 
 -- ---- how a gap is filled, so that 01's wording is never ambiguous
--- V is left by line a and next entered by line b: where the lines differ, V has one or two corners in U, and of two just one lies on a
+-- V is left by line a and next entered by line b: where the lines differ, V has one or two corners in U, and of two just one lies on a.
+-- Whenever V is left, it is entered again
 filled : List ℕ → ℕ → ℕ → Bool
 unfolding filter
 filled cs a b = eqb a b || (eqb (length cs) 1 || (eqb (length cs) 2 && eqb (length (filter (onLine a) cs)) 1))
@@ -59,7 +60,7 @@ gaps : List ℕ → List Met → List Met → Bool
 unfolding filled entered
 gaps cs again [] = true
 gaps cs again (inside i ∷ m) = gaps cs again m
-gaps cs again (leave e a ∷ m) = filled cs a (entered a (m ++ again)) && gaps cs again m
+gaps cs again (leave e a ∷ m) = ltb (entered 3 (m ++ again)) 3 && (filled cs a (entered a (m ++ again)) && gaps cs again m)
 gaps cs again (enter e a ∷ m) = gaps cs again m
 
 -- how many gaps lie between two different lines

@@ -42,4 +42,5 @@ pub record Sound (u : ℕ → ℕ → Bool) (o : ℕ → List ℕ) : Type 0 wher
   pub agrees : Agrees u o
   pub size : NoneOrThreeToSix (length (ring u o))
   pub holds : Holds (found u o) (ring u o)
-  pub neighbours : Closed (ring u o)
+  -- ring neighbours lie on a common edge of one triangle
+  pub joined : Closed (ring u o)

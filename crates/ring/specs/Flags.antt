@@ -9,12 +9,12 @@ use Rattle.lines.specs.Crossings.{onEdge}
 use Rattle.lines.specs.Round.{crossingsOf, cornerBy}
 use Rattle.ring.specs.Places.{Place, vertex, corner, crossing, onLine}
 
-module _ (u : ℕ → ℕ → Bool) (o : ℕ → List ℕ) where
-  -- vertex i is in V: plus on all three lines
-  unfoldable pub vertexIn : ℕ → Bool
-  unfolding all lines
-  vertexIn i = all (u i) (lines 3)
+-- vertex i is in V: plus on all three lines
+unfoldable pub vertexIn : (ℕ → ℕ → Bool) → ℕ → Bool
+unfolding all lines
+vertexIn u i = all (u i) (lines 3)
 
+module _ (u : ℕ → ℕ → Bool) (o : ℕ → List ℕ) where
   -- corner k is in U, as its lower line says; that its upper line says the same is a theorem (`Agrees`) and no test
   unfoldable pub cornerIn : ℕ → Bool
   unfolding cornerBy
@@ -25,7 +25,7 @@ module _ (u : ℕ → ℕ → Bool) (o : ℕ → List ℕ) where
   unfolding any crossingsOf onEdge
   crossingOn e a = any (λ c. eqb a (c .line) && onEdge 3 c) (crossingsOf u o e)
 
-  -- the neighbour flag of V's edge a: some edge of U crosses it there, or a corner at one of its ends is in U
+  -- the neighbour flag of V's edge a: it has a crossing on it, or a corner at one of its ends is in U
   unfoldable pub neighbour : ℕ → Bool
   unfolding any crossingOn cornerIn
   neighbour a = any (λ e. crossingOn e a) three || any (λ k. onLine a k && cornerIn k) three
@@ -33,14 +33,14 @@ module _ (u : ℕ → ℕ → Bool) (o : ℕ → List ℕ) where
   -- found inside, or found on an edge: what has to stand in the ring
   unfoldable pub found : Place → Bool
   unfolding vertexIn cornerIn crossingOn
-  found (vertex i) = vertexIn i
+  found (vertex i) = vertexIn u i
   found (corner k) = cornerIn k
   found (crossing e a) = crossingOn e a
 
   -- the nine flags, by kind
   unfoldable pub verticesIn : List Bool
   unfolding vertexIn
-  verticesIn = map vertexIn three
+  verticesIn = map (vertexIn u) three
 
   unfoldable pub cornersIn : List Bool
   unfolding cornerIn

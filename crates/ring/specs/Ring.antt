@@ -19,7 +19,7 @@ pub data Met : Type 0 where
 abbrev pub metAt : Crossing → Met
 metAt c = cond ((c .signs) (c .line)) (leave (c .edge) (c .line)) (enter (c .edge) (c .line))
 
--- the line that V is next entered by; d where it is not entered
+-- the line that V is next entered by; d where it is not entered, which does not occur (a law)
 unfoldable pub entered : ℕ → List Met → ℕ
 entered d [] = d
 entered d (inside i ∷ m) = entered d m
@@ -49,18 +49,18 @@ module _ (u : ℕ → ℕ → Bool) (o : ℕ → List ℕ) where
   -- on the way along edge e: its start, where that is in V, and then its crossings on V's edge
   unfoldable pub metOn : ℕ → List Met
   unfolding vertexIn filter onEdge crossingsOf
-  metOn e = cond (vertexIn u o (start e)) (inside (start e) ∷ []) [] ++ map metAt (filter (onEdge 3) (crossingsOf u o e))
+  metOn e = cond (vertexIn u (start e)) (inside (start e) ∷ []) [] ++ map metAt (filter (onEdge 3) (crossingsOf u o e))
 
   unfoldable pub met : List Met
   unfolding metOn
   met = metOn 0 ++ (metOn 1 ++ metOn 2)
 
-  -- a walk that met nothing has V's three corners for its ring if they are in U, and otherwise no ring
-  unfoldable pub closed : List Met → List Place
+  -- the ring of what was met. A walk that met nothing has V's three corners for its ring if they are in U, and otherwise no ring
+  unfoldable pub ringFrom : List Met → List Place
   unfolding all filter cornerIn build
-  closed [] = cond (all (cornerIn u o) three) (map corner three) []
-  closed (x ∷ m) = build (filter (cornerIn u o) three) (x ∷ m) (x ∷ m)
+  ringFrom [] = cond (all (cornerIn u o) three) (map corner three) []
+  ringFrom (x ∷ m) = build (filter (cornerIn u o) three) (x ∷ m) (x ∷ m)
 
   unfoldable pub ring : List Place
-  unfolding met closed
-  ring = closed met
+  unfolding met ringFrom
+  ring = ringFrom met

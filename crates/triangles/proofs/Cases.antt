@@ -7,12 +7,12 @@ use lib.Dec.{T, eqb, eqb→eq}
 use lib.ListN.{length, drop}
 use lib.Ieee.{Float, add, sub, mul, div, neg, lt, le, eq, ofInt, ofBits}
 use lib.Ieee.Fits.{and-l, and-r}
-use Rattle.floats.specs.Lists.{all, sameList}
-use Rattle.floats.proofs.Lists.{all-at, same-bool, same-list}
+use Rattle.floats.specs.Lists.{all}
+use Rattle.floats.proofs.Lists.{all-at, same-bool, sameList, same-list}
 use Rattle.floats.proofs.Same.{sameFloat, same-float}
 use Rattle.triangles.specs.Answers.{Whole, wholeOf}
 use Rattle.triangles.specs.Cases.{Case, cases, lent, Shown}
-use Rattle.triangles.specs.Edges.{witnesses}
+use Rattle.triangles.specs.Witnesses.{witnesses}
 
 sameFlags : List Bool → List Bool → Bool
 unfolding sameList
@@ -89,6 +89,6 @@ shown c t0 =
 pub worked : (c : Case) → List·Memᴰ c cases → Shown c
 worked c m = shown c (all-at right cases all-right m)
 
--- and each pair at the edges of the rules as the independent program has it
+-- and each pair at the borders of the rules as the independent program has it
 pub witnessed : (c : Case) → List·Memᴰ c witnesses → Shown c
 witnessed c m = shown c (all-at right witnesses witnesses-right m)

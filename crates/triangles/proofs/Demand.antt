@@ -15,13 +15,13 @@ use Rattle.floats.proofs.Lists.{all-at}
 use Rattle.lines.specs.Lines.{three, lowerLine, upperLine}
 use Rattle.lines.specs.Round.{cornerBy}
 use Rattle.ring.specs.Places.{Place, vertex, corner, crossing, fifteen}
-use Rattle.ring.specs.Flags.{vertexIn, cornerIn, found as foundPlace, verticesIn, cornersIn}
+use Rattle.ring.specs.Flags.{vertexIn, cornerIn, found, verticesIn, cornersIn}
 use Rattle.ring.specs.Demand.{Holds, Sound}
 use Rattle.ring.proofs.Demand.{demand3 as ring-demand3}
 use Rattle.triangles.specs.Pair.{vertexSigns, outcomesOf, edgeOrders, signsBy, ordersBy, carriedBy, ringOf}
-use Rattle.triangles.specs.Positions.{positionOf, cornersOf, valuesOfCorners}
-use Rattle.triangles.specs.Answers.{wholeOf, answered, found, written}
-use Rattle.triangles.specs.Demand.{foundIn, Demand3}
+use Rattle.triangles.specs.Positions.{positionOf, ringPositions, valuesOfCorners}
+use Rattle.triangles.specs.Answers.{answered, answerOf, written}
+use Rattle.triangles.specs.Demand.{foundIn, DemandThree}
 use Rattle.triangles.proofs.Rows.{number-is, answered-is}
 
 -- two values a corner
@@ -49,59 +49,59 @@ module _ (l : List Float) where
   sound = ring-demand3 f64 (carriedBy l)
 
   -- the values of the corners, two for each of the ring's places
-  pub count-of-values : length (valuesOfCorners (cornersOf l)) ≡ 2 * length (ringOf l)
-  unfolding cornersOf
-  count-of-values = values-length (cornersOf l) ∙ ap (2 *_) (length-map (ringOf l) (positionOf l))
+  pub count-of-values : length (valuesOfCorners (ringPositions l)) ≡ 2 * length (ringOf l)
+  unfolding ringPositions
+  count-of-values = values-length (ringPositions l) ∙ ap (2 *_) (length-map (ringOf l) (positionOf l))
 
-  vertex-flag : (i : ℕ) → i < 3 → vertexIn (signsBy l) (ordersBy l) i ≡ getD (found l .«u_in_v») i false
-  unfolding found verticesIn
+  vertex-flag : (i : ℕ) → i < 3 → vertexIn (signsBy l) i ≡ getD (answerOf l .«u_in_v») i false
+  unfolding answerOf verticesIn
   vertex-flag zero h = refl
   vertex-flag (suc zero) h = refl
   vertex-flag (suc (suc zero)) h = refl
   vertex-flag (suc (suc (suc i))) h = absurd (omega arith)
 
-  corner-flag : (k : ℕ) → k < 3 → cornerIn (signsBy l) (ordersBy l) k ≡ getD (found l .«v_in_u») k false
-  unfolding found cornersIn
+  corner-flag : (k : ℕ) → k < 3 → cornerIn (signsBy l) (ordersBy l) k ≡ getD (answerOf l .«v_in_u») k false
+  unfolding answerOf cornersIn
   corner-flag zero h = refl
   corner-flag (suc zero) h = refl
   corner-flag (suc (suc zero)) h = refl
   corner-flag (suc (suc (suc i))) h = absurd (omega arith)
 
   -- what the ring's theorem calls found is what the answer's flags say
-  by-flags : (p : Place) → T (inRange p) → foundPlace (signsBy l) (ordersBy l) p ≡ foundIn l (found l) p
-  unfolding foundPlace inRange
+  by-flags : (p : Place) → T (inRange p) → found (signsBy l) (ordersBy l) p ≡ foundIn l (answerOf l) p
+  unfolding found inRange
   by-flags (vertex i) t = vertex-flag i (ltb→lt i 3 t)
   by-flags (corner k) t = corner-flag k (ltb→lt k 3 t)
   by-flags (crossing e a) t = refl
 
-  held : Holds (foundIn l (found l)) (ringOf l)
+  held : Holds (foundIn l (answerOf l)) (ringOf l)
   unfolding ringOf
   held = record {
     exactly = λ p m. sound .holds .exactly p m ∙ ap once (by-flags p (all-at inRange fifteen fifteen-in-range m));
     nothingElse = sound .holds .nothingElse;
   }
 
-  lower-says : (k : ℕ) → List·Memᴰ k three → cornerBy (signsBy l) (ordersBy l) (lowerLine k) (upperLine k) ≡ getD (found l .«v_in_u») k false
+  lower-says : (k : ℕ) → List·Memᴰ k three → cornerBy (signsBy l) (ordersBy l) (lowerLine k) (upperLine k) ≡ getD (answerOf l .«v_in_u») k false
   unfolding cornerIn
   lower-says k m = corner-flag k (below-three k m)
 
   -- the front of the room, after an answer
-  pub front : (room : List Float) → take (2 * answered l room .answer .n) (answered l room .room) ≡ valuesOfCorners (cornersOf l)
-  unfolding answered found written
-  front room = take-at (valuesOfCorners (cornersOf l)) _ _ count-of-values
+  pub front : (room : List Float) → take (2 * answered l room .answer .n) (answered l room .room) ≡ valuesOfCorners (ringPositions l)
+  unfolding answered answerOf written
+  front room = take-at (valuesOfCorners (ringPositions l)) _ _ count-of-values
 
-  -- for every list of values and every room that are not refused
-  pub demand3 : (room : List Float) → wholeOf l room .answer .number ≡ 0 → Demand3 l room
-  unfolding answered found written ringOf cornersOf
-  demand3 room h =
-      let q = answered-is l room (sym (number-is l room) ∙ h) in
-      record {
-        noneOrTwo = sound .agrees .noneOrTwo;
-        lowerSays = λ k m. rw q (lower-says k m);
-        upperSays = λ k m. rw q (sound .agrees .bothLines (upperLine k) (lowerLine k) ∙ lower-says k m);
-        size = rw q (sound .size);
-        counted = rw q refl;
-        holds = rw q held;
-        neighbours = rw q (sound .neighbours);
-        positions = rw q (front room);
-      }
+-- for every list of values and every room that are not refused
+pub demand3 : DemandThree
+unfolding answered answerOf written ringOf ringPositions
+demand3 l room h =
+    let q = answered-is l room (sym (number-is l room) ∙ h) in
+    record {
+      noneOrTwo = sound l .agrees .noneOrTwo;
+      lowerSays = λ k m. rw q (lower-says l k m);
+      upperSays = λ k m. rw q (sound l .agrees .bothLines (upperLine k) (lowerLine k) ∙ lower-says l k m);
+      size = rw q (sound l .size);
+      counted = rw q refl;
+      holds = rw q (held l);
+      joined = rw q (sound l .joined);
+      positions = rw q (front l room);
+    }

@@ -21,11 +21,11 @@ use Rattle.lines.specs.Lines.{start, finish}
 use Rattle.lines.specs.Parameters.{parameter}
 use Rattle.ring.specs.Places.{Place, vertex, corner, crossing, fifteen}
 use Rattle.triangles.specs.Pair.{vertexOf, carriedBy, signsBy, ringOf}
-use Rattle.triangles.specs.Positions.{fraction, crossingAt, positionOf, cornersOf, valuesOfCorners, sumTo, half, areaOf}
-use Rattle.triangles.specs.Refusals.{Row, lengths, coordinates, position, area, wayToPositions, wayOf, refusalOf}
-use Rattle.triangles.specs.Answers.{wholeOf, answered, found}
+use Rattle.triangles.specs.Positions.{fraction, crossingAt, positionOf, ringPositions, valuesOfCorners, sumTo, half, areaOf}
+use Rattle.triangles.specs.Refusals.{Row, lengths, coordinates, wayToPosition, wayToArea, positionsWay, wayOf, refusalOf}
+use Rattle.triangles.specs.Answers.{answered, answerOf}
 use Rattle.triangles.specs.Rows.{NotFinite, Applies}
-use Rattle.triangles.specs.Promise.{FiniteAnswer}
+use Rattle.triangles.specs.Promise.{AnswersFinite}
 use Rattle.triangles.proofs.Rows.{by-none, number-is, answered-is}
 use Rattle.triangles.proofs.Demand.{inRange, fifteen-in-range, sound, front}
 
@@ -74,12 +74,12 @@ module _ (l : List Float) (coordinate : (k : ℕ) → k < 12 → T (finite (getD
       go true tx ty = crossing-finite a (start e) (finish e) tx ty
       go false tx ty = crossing-finite a (finish e) (start e) tx ty
 
-  values-finite : (ps : List Place) → T (all inRange ps) → T (all finite (wayToPositions (map (positionOf l) ps))) → T (all finite (valuesOfCorners (map (positionOf l) ps)))
-  unfolding all wayToPositions valuesOfCorners
+  values-finite : (ps : List Place) → T (all inRange ps) → T (all finite (positionsWay (map (positionOf l) ps))) → T (all finite (valuesOfCorners (map (positionOf l) ps)))
+  unfolding all positionsWay valuesOfCorners
   values-finite [] r t = tt
   values-finite (p ∷ ps) r t =
       let c = positionOf l p in
-      let rest = wayToPositions (map (positionOf l) ps) in
+      let rest = positionsWay (map (positionOf l) ps) in
       let t1 = os (sym (all-append finite (c .x .way ++ c .y .way) rest) ∙ so t) in
       let t2 = os (sym (all-append finite (c .x .way) (c .y .way)) ∙ so (and-l (all finite (c .x .way ++ c .y .way)) (all finite rest) t1)) in
       let f = place-finite p (and-l (inRange p) (all inRange ps) r) (and-l (fine (c .x)) (fine (c .y)) t2) (and-r (fine (c .x)) (fine (c .y)) t2) in
@@ -110,16 +110,16 @@ module _ (l room : List Float) where
   unfolding ringOf
   ring-in-range = all-of inRange (ringOf l) (λ p m. all-at inRange fifteen fifteen-in-range (sound l .holds .nothingElse p m))
 
-  corners-finite : refusalOf l room ≡ 0 → T (all finite (valuesOfCorners (cornersOf l)))
-  unfolding cornersOf wayOf
-  corners-finite h = values-finite l (coordinates-finite h) (ringOf l) ring-in-range (none-missing _ (passed h position))
+  corners-finite : refusalOf l room ≡ 0 → T (all finite (valuesOfCorners (ringPositions l)))
+  unfolding ringPositions wayOf
+  corners-finite h = values-finite l (coordinates-finite h) (ringOf l) ring-in-range (none-missing _ (passed h wayToPosition))
 
-  pub finite-answer : wholeOf l room .answer .number ≡ 0 → FiniteAnswer l room
-  unfolding answered found wayOf
-  finite-answer h =
-      let z = sym (number-is l room) ∙ h in
-      let q = answered-is l room z in
-      record {
-        corners = rw (q, front l room) (so (corners-finite z));
-        area = rw q (so (area-finite (cornersOf l) (none-missing _ (passed z area))));
-      }
+pub finite-answer : AnswersFinite
+unfolding answered answerOf wayOf
+finite-answer l room h =
+    let z = sym (number-is l room) ∙ h in
+    let q = answered-is l room z in
+    record {
+      corners = rw (q, front l room) (so (corners-finite l room z));
+      area = rw q (so (area-finite (ringPositions l) (none-missing _ (passed l room z wayToArea))));
+    }

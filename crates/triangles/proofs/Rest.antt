@@ -13,9 +13,9 @@ use lib.Ieee.{Float}
 use borrow.Author.Tests.{eqb-true, eqb-false, ltb-true, ltb-false}
 use Rattle.ring.specs.Demand.{NoneOrThreeToSix}
 use Rattle.triangles.specs.Pair.{ringOf}
-use Rattle.triangles.specs.Positions.{cornersOf, valuesOfCorners}
+use Rattle.triangles.specs.Positions.{ringPositions, valuesOfCorners}
 use Rattle.triangles.specs.Refusals.{lengths, refusalOf}
-use Rattle.triangles.specs.Answers.{answered, found, written}
+use Rattle.triangles.specs.Answers.{answered, answerOf, written}
 use Rattle.triangles.specs.Promise.{RestKept}
 use Rattle.triangles.proofs.Rows.{by-none, refused-is, answered-is}
 use Rattle.triangles.proofs.Demand.{sound, count-of-values}
@@ -37,10 +37,10 @@ module _ (l room : List Float) where
       go false e = ltb-false (length room) 12 e
 
   kept-answered : refusalOf l room ≡ 0 → RestKept l room
-  unfolding answered found written
+  unfolding answered answerOf written
   kept-answered h =
       let q = answered-is l room h in
-      let vs = valuesOfCorners (cornersOf l) in
+      let vs = valuesOfCorners (ringPositions l) in
       record {
         sameLength = rw q (length-append vs (drop (length vs) room) ∙ rw length-drop (omega (arith, room-fits h, ring-fits, count-of-values l)));
         rest = rw q (drop-at vs (drop (length vs) room) (2 * length (ringOf l)) (count-of-values l) ∙ ap (λ n. drop n room) (count-of-values l));

@@ -13,9 +13,9 @@ use borrow.Author.Tests.{eqb-true, eqb-false, eq-eqb, ne-eqb, ltb-true, ltb-fals
 use Rattle.floats.specs.Lists.{all}
 use Rattle.floats.specs.Finite.{finite}
 use Rattle.floats.proofs.Lists.{fails-at, fails-all}
-use Rattle.triangles.specs.Refusals.{Row, lengths, coordinates, wayToD, dZero, wayToE, eZero, parameter, pairTest, position, area, table, numberOf, wayOf, notAllFinite, holds, firstOf, refusalOf}
-use Rattle.triangles.specs.Answers.{wholeOf, refused, answered, found}
-use Rattle.triangles.specs.Rows.{NotFinite, Applies, placeOf, First, RefusedBy, NoRow, ExactlyWhen}
+use Rattle.triangles.specs.Refusals.{Row, lengths, coordinates, wayToD, dZero, wayToE, eZero, wayToParameter, wayToPairTest, wayToPosition, wayToArea, table, numberOf, wayOf, notAllFinite, rowTest, firstOf, refusalOf}
+use Rattle.triangles.specs.Answers.{wholeOf, refused, answered, answerOf}
+use Rattle.triangles.specs.Rows.{NotFinite, Applies, rankOf, First, RefusedBy, NoRow, ExactlyWhen}
 
 -- ---- each test against its row
 finite-test : (vs : List Float) → (notAllFinite vs ≡ true) ↔ NotFinite vs
@@ -32,30 +32,30 @@ lengths-test a b = (to (eqb a 12) refl, from)
     from (inl h) = rw (ne-eqb a 12 h) refl
     from (inr h) = rw (lt-ltb b 12 h) (or-true (not (eqb a 12)))
 
-holds-applies : (row : Row) (l room : List Float) → (holds row l room ≡ true) ↔ Applies row l room
-unfolding holds
-holds-applies lengths l room = lengths-test (length l) (length room)
-holds-applies coordinates l room = unfold wayOf in finite-test l
-holds-applies wayToD l room = finite-test (wayOf wayToD l)
-holds-applies dZero l room = ((λ h. h), (λ h. h))
-holds-applies wayToE l room = finite-test (wayOf wayToE l)
-holds-applies eZero l room = ((λ h. h), (λ h. h))
-holds-applies parameter l room = finite-test (wayOf parameter l)
-holds-applies pairTest l room = finite-test (wayOf pairTest l)
-holds-applies position l room = finite-test (wayOf position l)
-holds-applies area l room = finite-test (wayOf area l)
+test-applies : (row : Row) (l room : List Float) → (rowTest row l room ≡ true) ↔ Applies row l room
+unfolding rowTest
+test-applies lengths l room = lengths-test (length l) (length room)
+test-applies coordinates l room = unfold wayOf in finite-test l
+test-applies wayToD l room = finite-test (wayOf wayToD l)
+test-applies dZero l room = ((λ h. h), (λ h. h))
+test-applies wayToE l room = finite-test (wayOf wayToE l)
+test-applies eZero l room = ((λ h. h), (λ h. h))
+test-applies wayToParameter l room = finite-test (wayOf wayToParameter l)
+test-applies wayToPairTest l room = finite-test (wayOf wayToPairTest l)
+test-applies wayToPosition l room = finite-test (wayOf wayToPosition l)
+test-applies wayToArea l room = finite-test (wayOf wayToArea l)
 
 -- ---- the first of a list of rows whose test holds
 module _ (l room : List Float) where
   NoneOf : List Row → Type 0
-  NoneOf rows = (row : Row) → List·Memᴰ row rows → holds row l room ≡ false
+  NoneOf rows = (row : Row) → List·Memᴰ row rows → rowTest row l room ≡ false
 
   record Leads (rows : List Row) : Type 0 where
     before : List Row
     row : Row
     after : List Row
     split : rows ≡ before ++ (row ∷ after)
-    holding : holds row l room ≡ true
+    holding : rowTest row l room ≡ true
     none : NoneOf before
     number : firstOf rows l room ≡ numberOf row
 
@@ -63,20 +63,20 @@ module _ (l room : List Float) where
     none : NoneOf rows
     number : firstOf rows l room ≡ 0
 
-  none-more : (row : Row) (rows : List Row) → holds row l room ≡ false → NoneOf rows → NoneOf (row ∷ rows)
+  none-more : (row : Row) (rows : List Row) → rowTest row l room ≡ false → NoneOf rows → NoneOf (row ∷ rows)
   unfolding NoneOf
   none-more row rows e n r m = go (List·Memᴰ·cases-cons m)
     where
-      go : (r ≡ row) ⊎ List·Memᴰ r rows → holds r l room ≡ false
-      go (inl q) = ap (λ z. holds z l room) q ∙ e
+      go : (r ≡ row) ⊎ List·Memᴰ r rows → rowTest r l room ≡ false
+      go (inl q) = ap (λ z. rowTest z l room) q ∙ e
       go (inr k) = n r k
 
   search-rows : (rows : List Row) → Passes rows ⊎ Leads rows
   unfolding firstOf NoneOf
   search-rows [] = inl (record { none = λ row m. absurd (List·Memᴰ·not-nil m); number = refl })
-  search-rows (row ∷ rows) = go (holds row l room) refl (search-rows rows)
+  search-rows (row ∷ rows) = go (rowTest row l room) refl (search-rows rows)
     where
-      go : (b : Bool) → holds row l room ≡ b → Passes rows ⊎ Leads rows → Passes (row ∷ rows) ⊎ Leads (row ∷ rows)
+      go : (b : Bool) → rowTest row l room ≡ b → Passes rows ⊎ Leads rows → Passes (row ∷ rows) ⊎ Leads (row ∷ rows)
       go true e rest = inr (record { before = []; row = row; after = rows; split = refl; holding = e; none = λ r m. absurd (List·Memᴰ·not-nil m); number = rw e refl })
       go false e (inl p) = inl (record { none = none-more row rows e (p .none); number = rw e (p .number) })
       go false e (inr r) = inr (record {
@@ -90,42 +90,42 @@ module _ (l room : List Float) where
       })
 
 -- ---- the table: each row stands at its place
-at-place : (row : Row) → getD table (placeOf row) lengths ≡ row
-at-place lengths = refl
-at-place coordinates = refl
-at-place wayToD = refl
-at-place dZero = refl
-at-place wayToE = refl
-at-place eZero = refl
-at-place parameter = refl
-at-place pairTest = refl
-at-place position = refl
-at-place area = refl
+at-rank : (row : Row) → getD table (rankOf row) lengths ≡ row
+at-rank lengths = refl
+at-rank coordinates = refl
+at-rank wayToD = refl
+at-rank dZero = refl
+at-rank wayToE = refl
+at-rank eZero = refl
+at-rank wayToParameter = refl
+at-rank wayToPairTest = refl
+at-rank wayToPosition = refl
+at-rank wayToArea = refl
 
-place-below : (row : Row) → placeOf row < length table
-place-below lengths = omega arith
-place-below coordinates = omega arith
-place-below wayToD = omega arith
-place-below dZero = omega arith
-place-below wayToE = omega arith
-place-below eZero = omega arith
-place-below parameter = omega arith
-place-below pairTest = omega arith
-place-below position = omega arith
-place-below area = omega arith
+rank-below : (row : Row) → rankOf row < length table
+rank-below lengths = omega arith
+rank-below coordinates = omega arith
+rank-below wayToD = omega arith
+rank-below dZero = omega arith
+rank-below wayToE = omega arith
+rank-below eZero = omega arith
+rank-below wayToParameter = omega arith
+rank-below wayToPairTest = omega arith
+rank-below wayToPosition = omega arith
+rank-below wayToArea = omega arith
 
-place-at : (i : ℕ) → i < length table → placeOf (getD table i lengths) ≡ i
-place-at zero h = refl
-place-at (suc zero) h = refl
-place-at (suc (suc zero)) h = refl
-place-at (suc (suc (suc zero))) h = refl
-place-at (suc (suc (suc (suc zero)))) h = refl
-place-at (suc (suc (suc (suc (suc zero))))) h = refl
-place-at (suc (suc (suc (suc (suc (suc zero)))))) h = refl
-place-at (suc (suc (suc (suc (suc (suc (suc zero))))))) h = refl
-place-at (suc (suc (suc (suc (suc (suc (suc (suc zero)))))))) h = refl
-place-at (suc (suc (suc (suc (suc (suc (suc (suc (suc zero))))))))) h = refl
-place-at (suc (suc (suc (suc (suc (suc (suc (suc (suc (suc i)))))))))) h = absurd (omega arith)
+rank-at : (i : ℕ) → i < length table → rankOf (getD table i lengths) ≡ i
+rank-at zero h = refl
+rank-at (suc zero) h = refl
+rank-at (suc (suc zero)) h = refl
+rank-at (suc (suc (suc zero))) h = refl
+rank-at (suc (suc (suc (suc zero)))) h = refl
+rank-at (suc (suc (suc (suc (suc zero))))) h = refl
+rank-at (suc (suc (suc (suc (suc (suc zero)))))) h = refl
+rank-at (suc (suc (suc (suc (suc (suc (suc zero))))))) h = refl
+rank-at (suc (suc (suc (suc (suc (suc (suc (suc zero)))))))) h = refl
+rank-at (suc (suc (suc (suc (suc (suc (suc (suc (suc zero))))))))) h = refl
+rank-at (suc (suc (suc (suc (suc (suc (suc (suc (suc (suc i)))))))))) h = absurd (omega arith)
 
 member-at : (rows : List Row) (i : ℕ) (d : Row) → i < length rows → List·Memᴰ (getD rows i d) rows
 member-at [] i d h = absurd (omega arith)
@@ -133,32 +133,32 @@ member-at (r ∷ rows) zero d h = here refl
 member-at (r ∷ rows) (suc i) d h = there (member-at rows i d (omega arith))
 
 in-table : (row : Row) → List·Memᴰ row table
-in-table row = subst (λ r. List·Memᴰ r table) (at-place row) (member-at table (placeOf row) lengths (place-below row))
+in-table row = subst (λ r. List·Memᴰ r table) (at-rank row) (member-at table (rankOf row) lengths (rank-below row))
 
 module _ (before : List Row) (row : Row) (after : List Row) (split : table ≡ before ++ (row ∷ after)) where
   shorter : length before < length table
   shorter = let e = ap length split ∙ length-append before (row ∷ after) in omega (arith, e)
 
   -- a row's place is the number of rows before it
-  place-is : placeOf row ≡ length before
-  place-is = ap placeOf (sym (getD-append-seam before row after lengths) ∙ ap (λ r. getD r (length before) lengths) (sym split)) ∙ place-at (length before) shorter
+  rank-is : rankOf row ≡ length before
+  rank-is = ap rankOf (sym (getD-append-seam before row after lengths) ∙ ap (λ r. getD r (length before) lengths) (sym split)) ∙ rank-at (length before) shorter
 
   -- the rows with a lower place stand before it
-  lower-before : (e : Row) → placeOf e < placeOf row → List·Memᴰ e before
+  lower-before : (e : Row) → rankOf e < rankOf row → List·Memᴰ e before
   lower-before e h =
-      let k : placeOf e < length before = subst (λ n. placeOf e < n) place-is h in
+      let k : rankOf e < length before = subst (λ n. rankOf e < n) rank-is h in
       subst (λ r. List·Memᴰ r before)
-      (sym (List·getD-append before (row ∷ after) lengths (placeOf e) k) ∙ (ap (λ r. getD r (placeOf e) lengths) (sym split) ∙ at-place e))
-      (member-at before (placeOf e) lengths k)
+      (sym (List·getD-append before (row ∷ after) lengths (rankOf e) k) ∙ (ap (λ r. getD r (rankOf e) lengths) (sym split) ∙ at-rank e))
+      (member-at before (rankOf e) lengths k)
 
 -- ---- the cascade's number and the rows
 module _ (l room : List Float) where
-  fails : (row : Row) → holds row l room ≡ false → Applies row l room → ⊥
-  fails row h a = false≢true (sym h ∙ holds-applies row l room .1 a)
+  fails : (row : Row) → rowTest row l room ≡ false → Applies row l room → ⊥
+  fails row h a = false≢true (sym h ∙ test-applies row l room .1 a)
 
   first-row : (r : Leads l room table) → First (r .row) l room
   first-row r = record {
-    applies = holds-applies (r .row) l room .0 (r .holding);
+    applies = test-applies (r .row) l room .0 (r .holding);
     noneBefore = λ e h. unfold NoneOf in fails e (r .none e (lower-before (r .before) (r .row) (r .after) (r .split) e h));
   }
 
@@ -167,16 +167,16 @@ module _ (l room : List Float) where
   no-row p row a = fails row (p .none row (in-table row)) a
 
   -- two rows that are both first are the same place
-  one-first : (a b : Row) → First a l room → First b l room → placeOf a ≡ placeOf b
-  one-first a b fa fb = go (ltb (placeOf a) (placeOf b)) (ltb (placeOf b) (placeOf a)) refl refl
+  one-first : (a b : Row) → First a l room → First b l room → rankOf a ≡ rankOf b
+  one-first a b fa fb = go (ltb (rankOf a) (rankOf b)) (ltb (rankOf b) (rankOf a)) refl refl
     where
-      go : (x y : Bool) → ltb (placeOf a) (placeOf b) ≡ x → ltb (placeOf b) (placeOf a) ≡ y → placeOf a ≡ placeOf b
+      go : (x y : Bool) → ltb (rankOf a) (rankOf b) ≡ x → ltb (rankOf b) (rankOf a) ≡ y → rankOf a ≡ rankOf b
       go true y p q = absurd (fb .noneBefore a (ltb-true _ _ p) (fa .applies))
       go false true p q = absurd (fa .noneBefore b (ltb-true _ _ q) (fb .applies))
-      go false false p q = omega (arith, ltb-false (placeOf a) (placeOf b) p, ltb-false (placeOf b) (placeOf a) q)
+      go false false p q = omega (arith, ltb-false (rankOf a) (rankOf b) p, ltb-false (rankOf b) (rankOf a) q)
 
-  same-row : (a b : Row) → placeOf a ≡ placeOf b → a ≡ b
-  same-row a b h = sym (at-place a) ∙ (ap (λ i. getD table i lengths) h ∙ at-place b)
+  same-row : (a b : Row) → rankOf a ≡ rankOf b → a ≡ b
+  same-row a b h = sym (at-rank a) ∙ (ap (λ i. getD table i lengths) h ∙ at-rank b)
 
   nonzero : (row : Row) → numberOf row ≡ 0 → ⊥
   nonzero lengths h = omega arith
@@ -185,10 +185,10 @@ module _ (l room : List Float) where
   nonzero dZero h = omega arith
   nonzero wayToE h = omega arith
   nonzero eZero h = omega arith
-  nonzero parameter h = omega arith
-  nonzero pairTest h = omega arith
-  nonzero position h = omega arith
-  nonzero area h = omega arith
+  nonzero wayToParameter h = omega arith
+  nonzero wayToPairTest h = omega arith
+  nonzero wayToPosition h = omega arith
+  nonzero wayToArea h = omega arith
 
   by-row : (k : ℕ) → (k ≡ 0 → ⊥) → (refusalOf l room ≡ k) ↔ RefusedBy k l room
   unfolding refusalOf
@@ -227,7 +227,7 @@ module _ (l room : List Float) where
   number-is = go (eqb (refusalOf l room) 0) refl
     where
       go : (b : Bool) → eqb (refusalOf l room) 0 ≡ b → wholeOf l room .answer .number ≡ refusalOf l room
-      go true e = let h = eqb-true (refusalOf l room) 0 e in rw (answered-is h) (unfold answered found in sym h)
+      go true e = let h = eqb-true (refusalOf l room) 0 e in rw (answered-is h) (unfold answered answerOf in sym h)
       go false e = rw (refused-is (eqb-false (refusalOf l room) 0 e)) refl
 
   -- each refusal exactly when 01 says

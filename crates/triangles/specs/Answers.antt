@@ -10,7 +10,7 @@ use Rattle.ring.specs.Places.{Place}
 use Rattle.ring.specs.Flags.{verticesIn, cornersIn, neighbours}
 use Rattle.triangles.specs.declared.Answer.{Answer}
 use Rattle.triangles.specs.Pair.{vertexSigns, edgeOrders, signsBy, ordersBy, ringOf, testsOf}
-use Rattle.triangles.specs.Positions.{cornersOf, valuesOfCorners, areaOf}
+use Rattle.triangles.specs.Positions.{ringPositions, valuesOfCorners, areaOf}
 use Rattle.triangles.specs.Refusals.{refusalOf}
 
 -- what is answered, the room afterwards and, for stating things, the ring's places and the pair tests computed, each with its edge
@@ -32,12 +32,12 @@ abbrev pub refused : ℕ → List Float → Whole
 refused k room = record { answer = refusal k; room = room; ring = []; tests = [] }
 
 -- number 0, n, the area and the nine flags
-unfoldable pub found : List Float → Answer
-unfolding vertexSigns edgeOrders ringOf cornersOf areaOf verticesIn cornersIn neighbours
-found l = record {
+unfoldable pub answerOf : List Float → Answer
+unfolding vertexSigns edgeOrders ringOf ringPositions areaOf verticesIn cornersIn neighbours
+answerOf l = record {
   number = 0;
   n = length (ringOf l);
-  area = areaOf (cornersOf l) .value;
+  area = areaOf (ringPositions l) .value;
   «u_in_v» = verticesIn (signsBy l) (ordersBy l);
   «v_in_u» = cornersIn (signsBy l) (ordersBy l);
   neighbour = neighbours (signsBy l) (ordersBy l);
@@ -48,8 +48,8 @@ unfoldable pub written : List Float → List Float → List Float
 written values room = values ++ drop (length values) room
 
 unfoldable pub answered : List Float → List Float → Whole
-unfolding found written cornersOf valuesOfCorners ringOf testsOf
-answered l room = record { answer = found l; room = written (valuesOfCorners (cornersOf l)) room; ring = ringOf l; tests = testsOf l }
+unfolding answerOf written ringPositions valuesOfCorners ringOf testsOf
+answered l room = record { answer = answerOf l; room = written (valuesOfCorners (ringPositions l)) room; ring = ringOf l; tests = testsOf l }
 
 -- the whole answer
 unfoldable pub wholeOf : List Float → List Float → Whole

@@ -6,8 +6,9 @@ use mathlib.Core.List.{List, [], _∷_, _++_, map}
 use Prim.Native.Nat.{ℕ, _*_, _^_}
 use lib.IntN.{ℤ, pos, negsuc}
 use lib.ListN.{length, drop, replicate, set}
-use lib.Ieee.{Float, nan, binary64, ofInt, ofBits}
-use Rattle.lines.specs.Lines.{lines}
+use lib.Ieee.{Float, nan, binary64, ofInt}
+use Rattle.lines.specs.Lines.{upFrom}
+use Rattle.triangles.specs.Positions.{half}
 use Rattle.triangles.specs.Answers.{wholeOf, noFlags}
 
 -- a whole number as f64: `pos k` is k, `negsuc k` is −(k + 1)
@@ -39,9 +40,6 @@ flags a b c = a ∷ b ∷ c ∷ []
 abbrev pub refusedWith : ℕ → List Float → Case
 refusedWith k l = record { values = l; number = k; n = 0; corners = []; area = whole (pos 0); inV = noFlags; inU = noFlags; neighbour = noFlags; tests = 0 }
 
-abbrev oneHalf : Float
-oneHalf = ofBits binary64 0x3fe0_0000_0000_0000
-
 -- V unless given, U of A, and a triangle on one line
 abbrev standardV : List Float
 standardV = triangle (pos 0) (pos 0) (pos 4) (pos 0) (pos 0) (pos 4)
@@ -52,17 +50,18 @@ smallU = triangle (pos 1) (pos 1) (pos 2) (pos 1) (pos 1) (pos 2)
 abbrev flat : List Float
 flat = triangle (pos 0) (pos 0) (pos 1) (pos 1) (pos 2) (pos 2)
 
-abbrev largeV : List Float
-largeV = triangle (pos 0) (pos 0) (pos 8) (pos 0) (pos 0) (pos 8)
+-- V of C, and U of B
+abbrev large : List Float
+large = triangle (pos 0) (pos 0) (pos 8) (pos 0) (pos 0) (pos 8)
 
--- A and H: U of A inside V
-abbrev inside : List Float → Case
-inside v = record {
+-- A and H: U of A lies in V
+abbrev lyingIn : List Float → Case
+lyingIn v = record {
   values = smallU ++ v;
   number = 0;
   n = 3;
   corners = smallU;
-  area = oneHalf;
+  area = half;
   inV = flags true true true;
   inU = noFlags;
   neighbour = noFlags;
@@ -71,11 +70,11 @@ inside v = record {
 
 abbrev caseB : Case
 caseB = record {
-  values = largeV ++ smallU;
+  values = large ++ smallU;
   number = 0;
   n = 3;
   corners = smallU;
-  area = oneHalf;
+  area = half;
   inV = noFlags;
   inU = flags true true true;
   neighbour = flags true true true;
@@ -84,7 +83,7 @@ caseB = record {
 
 abbrev caseC : Case
 caseC = record {
-  values = triangle (pos 6) (pos 6) (negsuc 1) (pos 6) (pos 6) (negsuc 1) ++ largeV;
+  values = triangle (pos 6) (pos 6) (negsuc 1) (pos 6) (pos 6) (negsuc 1) ++ large;
   number = 0;
   n = 6;
   corners = map whole (pos 2 ∷ pos 6 ∷ pos 0 ∷ pos 6 ∷ pos 0 ∷ pos 4 ∷ pos 4 ∷ pos 0 ∷ pos 6 ∷ pos 0 ∷ pos 6 ∷ pos 2 ∷ []);
@@ -147,17 +146,24 @@ caseG = record {
   tests = 3;
 }
 
--- K: no number in place k
+abbrev caseI : Case
+caseI = refusedWith 3 (smallU ++ flat)
+
+abbrev caseJ : Case
+caseJ = refusedWith 5 (flat ++ standardV)
+
+abbrev caseL : Case
+caseL = refusedWith 4 (smallU ++ triangle (pos 0) (pos 0) (pos (10 ^ 300)) (pos 0) (pos 0) (pos (10 ^ 300)))
+
+-- K: NaN in place k
 abbrev casesK : List Float → List Case
-casesK l = map (λ k. refusedWith 2 (set l k nan)) (lines 12)
+casesK l = map (λ k. refusedWith 2 (set l k nan)) (upFrom 0 12)
 
 abbrev pub cases : List Case
-unfolding lines
+unfolding upFrom
 cases =
-    inside standardV ∷ caseB ∷ caseC ∷ caseD ∷ caseE ∷ caseF ∷ caseG ∷ inside (triangle (pos 0) (pos 0) (pos 0) (pos 4) (pos 4) (pos 0))
-    ∷ refusedWith 3 (smallU ++ flat)
-    ∷ refusedWith 5 (flat ++ standardV)
-    ∷ refusedWith 4 (smallU ++ triangle (pos 0) (pos 0) (pos (10 ^ 300)) (pos 0) (pos 0) (pos (10 ^ 300)))
+    lyingIn standardV ∷ caseB ∷ caseC ∷ caseD ∷ caseE ∷ caseF ∷ caseG ∷ lyingIn (triangle (pos 0) (pos 0) (pos 0) (pos 4) (pos 4) (pos 0))
+    ∷ caseI ∷ caseJ ∷ caseL
     ∷ casesK (smallU ++ standardV) ++ casesK (smallU ++ flat)
 
 -- the room that is lent: more than enough, and told from any corner

@@ -1,4 +1,4 @@
--- Demand 3 of an answer that is no refusal, in its own n, flags and room. Positions may coincide. Statements only.
+-- Demand 3 of every answer that is no refusal, in its own n, flags and room. Positions may coincide. Statements only.
 use mathlib.Core.Path.{_≡_}
 use mathlib.Core.Logic.{_⊎_}
 use mathlib.Core.Bool.{Bool, false}
@@ -34,6 +34,10 @@ pub record Demand3 (l room : List Float) : Type 0 where
   -- each of the fifteen places stands in it exactly once if it was found inside or on an edge, not at all otherwise, and nothing else does
   pub holds : Holds (foundIn l (wholeOf l room .answer)) (wholeOf l room .ring)
   -- each place and the next, and the last and the first, lie on a common edge of one triangle
-  pub neighbours : Closed (wholeOf l room .ring)
+  pub joined : Closed (wholeOf l room .ring)
   -- the first 2n values of the room are the positions of the ring's places, in order
   pub positions : take (2 * wholeOf l room .answer .n) (wholeOf l room .room) ≡ valuesOfCorners (map (positionOf l) (wholeOf l room .ring))
+
+-- for every list of values and every room, unless refused
+abbrev pub DemandThree : Type 0
+DemandThree = (l room : List Float) → wholeOf l room .answer .number ≡ 0 → Demand3 l room

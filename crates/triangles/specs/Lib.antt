@@ -6,4 +6,4 @@ pub mod Rows
 pub mod Promise
 pub mod Demand
 pub mod Cases
-pub mod Edges
+pub mod Witnesses

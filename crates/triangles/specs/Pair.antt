@@ -1,5 +1,5 @@
--- 01, "Numbers and lines" to "Flags, ring and area", of one pair of triangles: U0x, U0y, .. V2y. Every list has these, of whatever length.
--- Definitions only.
+-- 01, "Numbers and lines" to "Flags, ring and area", of one pair of triangles: U0x, U0y, .. V2y. Every list has these, of whatever length: a value
+-- that is missing reads as NaN, and row 1 of the refusals comes before anything that looks at it. Definitions only.
 use mathlib.Core.Bool.{Bool}
 use mathlib.Core.List.{List, _++_, map}
 use Prim.Native.Nat.{ℕ, _+_, _*_}
@@ -10,8 +10,8 @@ use Rattle.floats.specs.Way.{Way, f64, givenPoint}
 use Rattle.lines.specs.Lines.{signsAt}
 use Rattle.lines.specs.declared.Params.{Params}
 use Rattle.lines.specs.Parameters.{Parameters, dOf, eOf, parameters, carried, valuesOf}
-use Rattle.order.specs.PairTest.{signsOfU, testOn, outcomesOn}
-use Rattle.order.specs.Order.{Decided, decidedOn, ordersOf, orderAt}
+use Rattle.order.specs.PairTest.{signsOfU, pairDOn, outcomesOn}
+use Rattle.order.specs.Order.{decidedOn, ordersOf, orderAt}
 use Rattle.ring.specs.Places.{Place}
 use Rattle.ring.specs.Ring.{ring}
 
@@ -24,11 +24,11 @@ module _ (l : List Float) where
   cornerOf k = vertexOf (3 + k)
 
   -- d and e, with every value on their way
-  unfoldable pub d : Way
-  d = dOf f64 (cornerOf 0) (cornerOf 1) (cornerOf 2)
+  unfoldable pub dOfV : Way
+  dOfV = dOf f64 (cornerOf 0) (cornerOf 1) (cornerOf 2)
 
-  unfoldable pub e : Way
-  e = eOf f64 (vertexOf 0) (vertexOf 1) (vertexOf 2)
+  unfoldable pub eOfU : Way
+  eOfU = eOf f64 (vertexOf 0) (vertexOf 1) (vertexOf 2)
 
   -- the parameters of vertex i, with every value on their way
   unfoldable pub parametersOf : ℕ → Parameters Way
@@ -39,7 +39,7 @@ module _ (l : List Float) where
   unfolding parametersOf
   paramsOf i = valuesOf (parametersOf i)
 
-  -- as the pair tests and positions take them
+  -- as the signs, pair tests and positions take them: their way was judged by a row of its own and is not kept
   abbrev pub carriedBy : ℕ → Parameters Way
   carriedBy i = carried (paramsOf i)
 
@@ -48,14 +48,10 @@ module _ (l : List Float) where
   unfolding paramsOf signsOfU
   vertexSigns = signsOfU f64 carriedBy
 
-  -- the outcomes of edge e's pair tests, its order, and the pair tests computed to find it
+  -- the outcomes of edge e's pair tests, and the orders that they give
   unfoldable pub outcomesOf : ℕ → List Bool
   unfolding paramsOf outcomesOn
   outcomesOf e = outcomesOn f64 carriedBy e
-
-  unfoldable pub decidedOf : ℕ → Decided
-  unfolding vertexSigns outcomesOf decidedOn
-  decidedOf e = decidedOn vertexSigns outcomesOf e
 
   unfoldable pub edgeOrders : List (List ℕ)
   unfolding vertexSigns outcomesOf ordersOf
@@ -75,15 +71,15 @@ module _ (l : List Float) where
 
   -- the pair tests computed on edge e, each with its edge
   unfoldable pub testsOn : ℕ → List (ℕ × (ℕ × ℕ))
-  unfolding decidedOf
-  testsOn e = map (λ t. (e, t)) (decidedOf e .tests)
+  unfolding vertexSigns outcomesOf decidedOn
+  testsOn e = map (λ t. (e, t)) (decidedOn vertexSigns outcomesOf e .tests)
 
   -- all pair tests computed: edges 0, 1, 2 in turn
   unfoldable pub testsOf : List (ℕ × (ℕ × ℕ))
   unfolding testsOn
   testsOf = testsOn 0 ++ (testsOn 1 ++ testsOn 2)
 
-  -- the pair test's D
-  unfoldable pub pairTestOf : ℕ × (ℕ × ℕ) → Way
+  -- the D of such a pair test
+  unfoldable pub pairDOf : ℕ × (ℕ × ℕ) → Way
   unfolding paramsOf
-  pairTestOf t = testOn f64 carriedBy (t .0) (t .1 .0) (t .1 .1)
+  pairDOf t = pairDOn f64 carriedBy (t .0) (t .1 .0) (t .1 .1)

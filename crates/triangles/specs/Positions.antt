@@ -33,17 +33,17 @@ module _ (l : List Float) where
   positionOf (corner k) = cornerOf l k
   positionOf (crossing e a) = cond (signsBy l (start e) a) (crossingAt a (start e) (finish e)) (crossingAt a (finish e) (start e))
 
-  -- the corners' positions: of the ring's places, and of no other crossing
-  unfoldable pub cornersOf : List (Point Way)
+  -- the positions of the ring's places, and of no other crossing
+  unfoldable pub ringPositions : List (Point Way)
   unfolding ringOf positionOf
-  cornersOf = map positionOf (ringOf l)
+  ringPositions = map positionOf (ringOf l)
 
 -- the 2n values of n corners
 unfoldable pub valuesOfCorners : List (Point Way) → List Float
 valuesOfCorners [] = []
 valuesOfCorners (c ∷ cs) = c .x .value ∷ c .y .value ∷ valuesOfCorners cs
 
--- corner k of these
+-- corner k of these; its way was judged by the positions' row and is not kept
 abbrev pub cornerAt : List (Point Way) → ℕ → Point Way
 cornerAt cs k = let c = getD cs k (givenPoint nan nan) in givenPoint (c .x .value) (c .y .value)
 

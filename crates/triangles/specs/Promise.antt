@@ -15,6 +15,10 @@ pub record Promise (values room : List Float) (result : Answer) (after : List Fl
   pub result-is : result ≡ wholeOf values room .answer
   pub after-is : after ≡ wholeOf values room .room
 
+-- no second result and no second room meets it
+abbrev pub NoSecondAnswer : Type 0
+NoSecondAnswer = (values room : List Float) (r s : Answer) (a b : List Float) → Promise values room r a → Promise values room s b → (r ≡ s) × (a ≡ b)
+
 -- of any input, refused or not: the room keeps its length, and its values beyond the first 2n are as they were lent
 pub record RestKept (values room : List Float) : Type 0 where
   pub sameLength : length (wholeOf values room .room) ≡ length room
@@ -24,3 +28,6 @@ pub record RestKept (values room : List Float) : Type 0 where
 pub record FiniteAnswer (values room : List Float) : Type 0 where
   pub corners : all finite (take (2 * wholeOf values room .answer .n) (wholeOf values room .room)) ≡ true
   pub area : finite (wholeOf values room .answer .area) ≡ true
+
+abbrev pub AnswersFinite : Type 0
+AnswersFinite = (values room : List Float) → wholeOf values room .answer .number ≡ 0 → FiniteAnswer values room

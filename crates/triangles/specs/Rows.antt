@@ -7,8 +7,8 @@ use Prim.Native.Nat.{ℕ, _<_}
 use lib.ListN.{length}
 use lib.Ieee.{Float, eq, binary64, ofBits}
 use Rattle.floats.specs.Finite.{finite, nought}
-use Rattle.triangles.specs.Pair.{d, e}
-use Rattle.triangles.specs.Refusals.{Row, lengths, coordinates, wayToD, dZero, wayToE, eZero, parameter, pairTest, position, area, numberOf, wayOf}
+use Rattle.triangles.specs.Pair.{dOfV, eOfU}
+use Rattle.triangles.specs.Refusals.{Row, lengths, coordinates, wayToD, dZero, wayToE, eZero, wayToParameter, wayToPairTest, wayToPosition, wayToArea, numberOf, wayOf}
 use Rattle.triangles.specs.Answers.{Whole, wholeOf}
 
 -- one of these values is not finite
@@ -20,31 +20,31 @@ abbrev pub Applies : Row → List Float → List Float → Type 0
 Applies lengths l room = (length l ≡ 12 → ⊥) ⊎ (length room < 12)
 Applies coordinates l room = NotFinite l
 Applies wayToD l room = NotFinite (wayOf wayToD l)
-Applies dZero l room = eq (d l .value) nought ≡ true
+Applies dZero l room = eq (dOfV l .value) nought ≡ true
 Applies wayToE l room = NotFinite (wayOf wayToE l)
-Applies eZero l room = eq (e l .value) nought ≡ true
-Applies parameter l room = NotFinite (wayOf parameter l)
-Applies pairTest l room = NotFinite (wayOf pairTest l)
-Applies position l room = NotFinite (wayOf position l)
-Applies area l room = NotFinite (wayOf area l)
+Applies eZero l room = eq (eOfU l .value) nought ≡ true
+Applies wayToParameter l room = NotFinite (wayOf wayToParameter l)
+Applies wayToPairTest l room = NotFinite (wayOf wayToPairTest l)
+Applies wayToPosition l room = NotFinite (wayOf wayToPosition l)
+Applies wayToArea l room = NotFinite (wayOf wayToArea l)
 
--- the row's place in the table, from 0
-abbrev pub placeOf : Row → ℕ
-placeOf lengths = 0
-placeOf coordinates = 1
-placeOf wayToD = 2
-placeOf dZero = 3
-placeOf wayToE = 4
-placeOf eZero = 5
-placeOf parameter = 6
-placeOf pairTest = 7
-placeOf position = 8
-placeOf area = 9
+-- the row's rank, from 0: the table's order, said once more so that the cascade can be held against it
+abbrev pub rankOf : Row → ℕ
+rankOf lengths = 0
+rankOf coordinates = 1
+rankOf wayToD = 2
+rankOf dZero = 3
+rankOf wayToE = 4
+rankOf eZero = 5
+rankOf wayToParameter = 6
+rankOf wayToPairTest = 7
+rankOf wayToPosition = 8
+rankOf wayToArea = 9
 
 -- the row applies and no earlier row does
 pub record First (row : Row) (l room : List Float) : Type 0 where
   pub applies : Applies row l room
-  pub noneBefore : (earlier : Row) → placeOf earlier < placeOf row → Applies earlier l room → ⊥
+  pub noneBefore : (earlier : Row) → rankOf earlier < rankOf row → Applies earlier l room → ⊥
 
 -- a row with this number is the first that applies
 abbrev pub RefusedBy : ℕ → List Float → List Float → Type 0

@@ -3,12 +3,12 @@ use mathlib.Core.Path.{_≡_, refl}
 use mathlib.Core.Bool.{Bool, true, false, not, _||_}
 use mathlib.Core.List.{List, [], _∷_}
 use Rattle.floats.specs.Lists.{any}
-use Rattle.lines.specs.Parameters.{signsOf, signs, unseen}
+use Rattle.lines.specs.Parameters.{signsOf, signs, lastUnseen}
 use Rattle.lines.proofs.signs_of.Statement.{statement}
 use Rattle.lines.proofs.signs_of.Tie as tie
 
-of-two : (x y w : Bool) → _≡_ {A = List Bool} (x ∷ y ∷ (not (x || y) || w) ∷ []) (unseen (x ∷ y ∷ []) w)
-unfolding unseen any
+of-two : (x y w : Bool) → _≡_ {A = List Bool} (x ∷ y ∷ (not (x || y) || w) ∷ []) (lastUnseen (x ∷ y ∷ []) w)
+unfolding lastUnseen any
 of-two true y w = refl
 of-two false true w = refl
 of-two false false w = refl
