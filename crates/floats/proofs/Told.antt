@@ -1,14 +1,14 @@
 -- Of all operations only a quotient can hide an infinity or a NaN behind a finite result. So a value made of sums, differences, products and negations alone is
 -- finite exactly if every value on its way is: its last value tells. Assumes nothing.
 use mathlib.Core.Path.{_≡_, refl, sym, ap, ap₂, _∙_}
-use mathlib.Core.Bool.{Bool, true, false, _&&_, cond, and-true, and-false, false≢true}
+use mathlib.Core.Bool.{Bool, true, false, _&&_, cond, and-true, and-false, and-self, false≢true}
 use mathlib.Core.List.{List, [], _∷_, _++_}
 use lib.Dec.{eqb}
 use lib.Ieee.{Float, nan, inf, fin, binary64, add, sub, mul, div, neg, unlike, ofBits}
 use Rattle.floats.specs.Lists.{all}
 use Rattle.floats.specs.Finite.{finite}
 use Rattle.floats.specs.Numbers.{Point, cross, crossFrom}
-use Rattle.floats.specs.Way.{Way, given, step, _⊕_, _⊖_, _⊗_, _⊘_, negated, fine, f64}
+use Rattle.floats.specs.Way.{Way, given, step, _⊕_, _⊖_, _⊗_, _⊘_, negated, fine, f64, givenPoint}
 use Rattle.floats.proofs.Lists.{all-append}
 
 -- the result of an operation is fine exactly if all before it is finite and it is itself
@@ -102,13 +102,19 @@ told-sub a b ka kb = tells a b (sub binary64 (a .value) (b .value)) ka kb (both 
 pub told-mul : (a b : Way) → Kept a → Kept b → Told (a ⊗ b)
 told-mul a b ka kb = tells a b (mul binary64 (a .value) (b .value)) ka kb (both _ _ _ (mul-both (a .value) (b .value)))
 
-pub kept-negated : (a : Way) → Kept a → Kept (negated a)
-kept-negated a k h = fine-step (neg (a .value)) (a .way) ∙ ap₂ _&&_ (k (sym (neg-finite (a .value)) ∙ h)) h
+told-negated : (a : Way) → Told a → Told (negated a)
+told-negated a t =
+    fine-step (neg (a .value)) (a .way)
+    ∙ (ap (λ b. b && finite (neg (a .value))) (t ∙ sym (neg-finite (a .value))) ∙ and-self (finite (neg (a .value))))
 
 -- negated where the test holds
+pub told-flip : (b : Bool) (a : Way) → Told a → Told (cond b (negated a) a)
+told-flip true a t = told-negated a t
+told-flip false a t = t
+
 pub kept-flip : (b : Bool) (a : Way) → Kept a → Kept (cond b (negated a) a)
-kept-flip true a k = kept-negated a k
-kept-flip false a k = k
+kept-flip true a k h = fine-step (neg (a .value)) (a .way) ∙ ap₂ _&&_ (k (sym (neg-finite (a .value)) ∙ h)) h
+kept-flip false a k h = k h
 
 -- ---- the formulas
 pub told-cross : (p q r s : Way) → Kept p → Kept q → Kept r → Kept s → Told (cross f64 p q r s)
@@ -118,9 +124,12 @@ told-cross p q r s kp kq kr ks =
 pub kept-sub : (a b : Way) → Kept a → Kept b → Kept (a ⊖ b)
 kept-sub a b ka kb = told-kept (a ⊖ b) (told-sub a b ka kb)
 
--- a point whose two components tell where they are finite
+-- a point whose two components tell where they are finite, as a given one's do
 abbrev pub KeptPoint : Point Way → Type 0
 KeptPoint p = Kept (p .x) × Kept (p .y)
+
+pub given-point : (x y : Float) → KeptPoint (givenPoint x y)
+given-point x y = (given-kept x, given-kept y)
 
 pub told-crossFrom : (a b c : Point Way) → KeptPoint a → KeptPoint b → KeptPoint c → Told (crossFrom f64 a b c)
 told-crossFrom a b c ka kb kc =

@@ -2,3 +2,4 @@ pub mod Signs
 pub mod Count
 pub mod Two
 pub mod Corner
+pub mod Told

@@ -4,3 +4,4 @@ pub mod Unique
 pub mod Demand
 pub mod Rest
 pub mod FiniteAnswer
+pub mod Told
