@@ -3,3 +3,4 @@ pub mod Count
 pub mod Two
 pub mod Corner
 pub mod Told
+pub mod Corners

@@ -1,7 +1,7 @@
 -- Demand 3 of every walk, in any numbers: the lines' part by the laws over any number of lines, the ring's by the computed test. Assumes nothing.
 use mathlib.Core.Path.{_≡_, refl}
 use mathlib.Core.Logic.{inl, inr}
-use mathlib.Core.Bool.{Bool, _&&_}
+use mathlib.Core.Bool.{Bool, _&&_, Bool·beq}
 use mathlib.Core.List.{List, [], _∷_, List·Memᴰ, List·Memᴰ·head, List·Memᴰ·tail}
 use Prim.Native.Nat.{ℕ}
 use lib.Dec.{T, eqb, leb, ltb, eqb→eq, leb→le}
@@ -9,8 +9,8 @@ use lib.Ieee.Fits.{and-l, and-r}
 use lib.ListN.{length}
 use Rattle.floats.specs.Lists.{any, count, once}
 use Rattle.floats.specs.Numbers.{Numbers}
-use Rattle.floats.proofs.Lists.{so, all-at, any-member, or-cases}
-use Rattle.lines.specs.Lines.{signsAt, start, finish}
+use Rattle.floats.proofs.Lists.{so, all-at, any-member, or-cases, same-bool}
+use Rattle.lines.specs.Lines.{three, signsAt, start, finish}
 use Rattle.lines.specs.Parameters.{Parameters, signs}
 use Rattle.lines.specs.Round.{Meets}
 use Rattle.lines.proofs.Corner.{agrees}
@@ -18,12 +18,12 @@ use Rattle.order.specs.PairTest.{signsOfU, outcomesOn}
 use Rattle.order.specs.Order.{decidedOn, ordersOf, orderAt}
 use Rattle.order.proofs.Every.{seven, eight, in-seven, in-eight}
 use Rattle.order.proofs.Edge.{order-meets}
-use Rattle.ring.specs.Places.{Place, vertex, corner, crossing, samePlace, fifteen, Side, lies, sides}
-use Rattle.ring.specs.Flags.{found}
+use Rattle.ring.specs.Places.{Place, vertex, corner, crossing, samePlace, fifteen, Side, ofV, lies, sides}
+use Rattle.ring.specs.Flags.{neighbour, found}
 use Rattle.ring.specs.Ring.{ring}
 use Rattle.ring.specs.Demand.{NoneOrThreeToSix, Holds, Joined, Linked, Closed, Sound}
 use Rattle.ring.proofs.Walks.{every-walk}
-use Rattle.ring.proofs.Sweep.{joined, linked, isClosed, isSize, exact, within, sound, all-sound}
+use Rattle.ring.proofs.Sweep.{joined, linked, isClosed, isSize, exact, within, byPlaces, sound, all-sound}
 
 -- ---- the tests as statements
 same-place : (p q : Place) → T (samePlace p q) → p ≡ q
@@ -82,6 +82,10 @@ holds-is isFound r e w = record {
   nothingElse = λ p m. any-member samePlace same-place p fifteen (all-at (λ p. any (samePlace p) fifteen) r w m);
 }
 
+flag-is : (flag : ℕ → Bool) (r : List Place) → T (byPlaces flag r) → (a : ℕ) → List·Memᴰ a three → flag a ≡ any (lies (ofV a)) r
+unfolding byPlaces
+flag-is flag r t a m = same-bool (flag a) (any (lies (ofV a)) r) (all-at (λ a. Bool·beq (flag a) (any (lies (ofV a)) r)) three t m)
+
 -- ---- any signs that a vertex can have, any outcomes
 module _ (p q r : List Bool) (mp : List·Memᴰ p seven) (mq : List·Memᴰ q seven) (mr : List·Memᴰ r seven) (ts : ℕ → List Bool) (mt : (e : ℕ) → List·Memᴰ (ts e) eight) where
   abbrev ss : List (List Bool)
@@ -105,17 +109,20 @@ module _ (p q r : List Bool) (mp : List·Memᴰ p seven) (mq : List·Memᴰ q se
   unfolding sound
   sound-walk =
       let t = every-walk sound all-sound p q r mp mq mr ts mt in
+      let F = byPlaces (neighbour u o) (ring u o) in
       let W = within (ring u o) in
       let E = exact (found u o) (ring u o) in
       let C = isClosed (ring u o) in
       let S = isSize (length (ring u o)) in
-      let t3 = and-r S (C && (E && W)) t in
-      let t2 = and-r C (E && W) t3 in
+      let t4 = and-r S (C && (E && (W && F))) t in
+      let t3 = and-r C (E && (W && F)) t4 in
+      let t2 = and-r E (W && F) t3 in
       record {
         agrees = agrees u o meets;
-        size = size-is (length (ring u o)) (and-l S (C && (E && W)) t);
-        holds = holds-is (found u o) (ring u o) (and-l E W t2) (and-r E W t2);
-        joined = closed-is (ring u o) (and-l C (E && W) t3);
+        size = size-is (length (ring u o)) (and-l S (C && (E && (W && F))) t);
+        holds = holds-is (found u o) (ring u o) (and-l E (W && F) t3) (and-l W F t2);
+        joined = closed-is (ring u o) (and-l C (E && (W && F)) t4);
+        flagged = λ a m. flag-is (neighbour u o) (ring u o) (and-r W F t2) a m;
       }
 
 -- in any numbers, whatever the parameters of U's three vertices

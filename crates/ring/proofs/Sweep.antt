@@ -1,6 +1,6 @@
 -- The computed test over all walks: the ring's size, each place as often as it was found, neighbours on a common edge, and how the gap is
 -- filled. Assumes nothing.
-use mathlib.Core.Bool.{Bool, true, _&&_, _||_, cond}
+use mathlib.Core.Bool.{Bool, true, _&&_, _||_, cond, Bool·beq}
 use mathlib.Core.List.{List, [], _∷_, _++_}
 use Prim.Native.Nat.{ℕ, suc}
 use lib.Dec.{T, eqb, leb, ltb}
@@ -8,8 +8,8 @@ use lib.ListN.{length}
 use Rattle.floats.specs.Lists.{all, any, filter, count, once}
 use Rattle.lines.specs.Lines.{three, signsAt}
 use Rattle.order.specs.Order.{orderAt}
-use Rattle.ring.specs.Places.{Place, samePlace, fifteen, onLine, lies, sides}
-use Rattle.ring.specs.Flags.{cornerIn, found}
+use Rattle.ring.specs.Places.{Place, samePlace, fifteen, onLine, ofV, lies, sides}
+use Rattle.ring.specs.Flags.{cornerIn, neighbour, found}
 use Rattle.ring.specs.Ring.{Met, inside, leave, enter, entered, met, ring}
 use Rattle.ring.proofs.Walks.{Test, allWalks}
 
@@ -39,11 +39,16 @@ unfoldable pub within : List Place → Bool
 unfolding all any samePlace
 within r = all (λ p. any (samePlace p) fifteen) r
 
+-- each neighbour flag by the ring's places
+unfoldable pub byPlaces : (ℕ → Bool) → List Place → Bool
+unfolding all any lies
+byPlaces flag r = all (λ a. Bool·beq (flag a) (any (lies (ofV a)) r)) three
+
 unfoldable pub sound : Test
-unfolding isSize isClosed exact within ring found
+unfolding isSize isClosed exact within byPlaces ring found neighbour
 sound ss os =
     let r = ring (signsAt ss) (orderAt os) in
-    isSize (length r) && (isClosed r && (exact (found (signsAt ss) (orderAt os)) r && within r))
+    isSize (length r) && (isClosed r && (exact (found (signsAt ss) (orderAt os)) r && (within r && byPlaces (neighbour (signsAt ss) (orderAt os)) r)))
 
 pub all-sound : T (allWalks sound)
 unfolding allWalks sound

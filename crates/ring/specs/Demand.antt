@@ -5,10 +5,11 @@ use mathlib.Core.Bool.{Bool, true}
 use mathlib.Core.List.{List, [], _∷_, List·Memᴰ}
 use Prim.Native.Nat.{ℕ, _≤_}
 use lib.ListN.{length}
-use Rattle.floats.specs.Lists.{count, once}
+use Rattle.floats.specs.Lists.{any, count, once}
+use Rattle.lines.specs.Lines.{three}
 use Rattle.lines.specs.Round.{Agrees}
-use Rattle.ring.specs.Places.{Place, samePlace, fifteen, Side, lies, sides}
-use Rattle.ring.specs.Flags.{found}
+use Rattle.ring.specs.Places.{Place, samePlace, fifteen, Side, ofV, lies, sides}
+use Rattle.ring.specs.Flags.{neighbour, found}
 use Rattle.ring.specs.Ring.{ring}
 
 -- none, or three to six
@@ -44,3 +45,5 @@ pub record Sound (u : ℕ → ℕ → Bool) (o : ℕ → List ℕ) : Type 0 wher
   pub holds : Holds (found u o) (ring u o)
   -- ring neighbours lie on a common edge of one triangle
   pub joined : Closed (ring u o)
+  -- beyond the demand: the neighbour flag of V's edge a is set exactly if a place of the ring lies on that edge
+  pub flagged : (a : ℕ) → List·Memᴰ a three → neighbour u o a ≡ any (lies (ofV a)) (ring u o)

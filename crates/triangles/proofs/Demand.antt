@@ -1,7 +1,7 @@
 -- Demand 3 of every answer that is no refusal: the ring's own theorem, read in the answer's n, flags and room. Assumes nothing.
 use mathlib.Core.Path.{_≡_, refl, sym, ap, _∙_}
 use mathlib.Core.Bool.{Bool, false, _&&_}
-use mathlib.Core.List.{List, [], _∷_, List·Memᴰ}
+use mathlib.Core.List.{List, [], _∷_, List·Memᴰ, map}
 use Prim.Native.Nat.{ℕ, zero, suc, _*_, _<_}
 use native.Mathlib.Omega.{arith}
 use lib.Dec.{T, ltb, ltb→lt}
@@ -15,7 +15,7 @@ use Rattle.floats.proofs.Lists.{all-at}
 use Rattle.lines.specs.Lines.{three, lowerLine, upperLine}
 use Rattle.lines.specs.Round.{cornerBy}
 use Rattle.ring.specs.Places.{Place, vertex, corner, crossing, fifteen}
-use Rattle.ring.specs.Flags.{vertexIn, cornerIn, found, verticesIn, cornersIn}
+use Rattle.ring.specs.Flags.{vertexIn, cornerIn, found, verticesIn, cornersIn, neighbour, neighbours}
 use Rattle.ring.specs.Demand.{Holds, Sound}
 use Rattle.ring.proofs.Demand.{demand3 as ring-demand3}
 use Rattle.triangles.specs.Pair.{vertexSigns, outcomesOf, edgeOrders, signsBy, ordersBy, carriedBy, ringOf}
@@ -43,6 +43,13 @@ fifteen-in-range = tt
 below-three : (k : ℕ) → List·Memᴰ k three → k < 3
 below-three k m = ltb→lt k 3 (all-at (λ k. ltb k 3) three (unfold all in tt) m)
 
+-- entry k of a flag for each of three
+entry : (flag : ℕ → Bool) (k : ℕ) → k < 3 → getD (map flag three) k false ≡ flag k
+entry flag zero h = refl
+entry flag (suc zero) h = refl
+entry flag (suc (suc zero)) h = refl
+entry flag (suc (suc (suc k))) h = absurd (omega arith)
+
 module _ (l : List Float) where
   pub sound : Sound (signsBy l) (ordersBy l)
   unfolding vertexSigns outcomesOf edgeOrders
@@ -53,25 +60,23 @@ module _ (l : List Float) where
   unfolding ringPositions
   count-of-values = values-length (ringPositions l) ∙ ap (2 *_) (length-map (ringOf l) (positionOf l))
 
-  vertex-flag : (i : ℕ) → i < 3 → vertexIn (signsBy l) i ≡ getD (answerOf l .«u_in_v») i false
+  vertex-flag : (i : ℕ) → i < 3 → getD (answerOf l .«u_in_v») i false ≡ vertexIn (signsBy l) i
   unfolding answerOf verticesIn
-  vertex-flag zero h = refl
-  vertex-flag (suc zero) h = refl
-  vertex-flag (suc (suc zero)) h = refl
-  vertex-flag (suc (suc (suc i))) h = absurd (omega arith)
+  vertex-flag = entry (vertexIn (signsBy l))
 
-  corner-flag : (k : ℕ) → k < 3 → cornerIn (signsBy l) (ordersBy l) k ≡ getD (answerOf l .«v_in_u») k false
+  corner-flag : (k : ℕ) → k < 3 → getD (answerOf l .«v_in_u») k false ≡ cornerIn (signsBy l) (ordersBy l) k
   unfolding answerOf cornersIn
-  corner-flag zero h = refl
-  corner-flag (suc zero) h = refl
-  corner-flag (suc (suc zero)) h = refl
-  corner-flag (suc (suc (suc i))) h = absurd (omega arith)
+  corner-flag = entry (cornerIn (signsBy l) (ordersBy l))
+
+  neighbour-flag : (a : ℕ) → a < 3 → getD (answerOf l .neighbour) a false ≡ neighbour (signsBy l) (ordersBy l) a
+  unfolding answerOf neighbours
+  neighbour-flag = entry (neighbour (signsBy l) (ordersBy l))
 
   -- what the ring's theorem calls found is what the answer's flags say
   by-flags : (p : Place) → T (inRange p) → found (signsBy l) (ordersBy l) p ≡ foundIn l (answerOf l) p
   unfolding found inRange
-  by-flags (vertex i) t = vertex-flag i (ltb→lt i 3 t)
-  by-flags (corner k) t = corner-flag k (ltb→lt k 3 t)
+  by-flags (vertex i) t = sym (vertex-flag i (ltb→lt i 3 t))
+  by-flags (corner k) t = sym (corner-flag k (ltb→lt k 3 t))
   by-flags (crossing e a) t = refl
 
   held : Holds (foundIn l (answerOf l)) (ringOf l)
@@ -83,7 +88,7 @@ module _ (l : List Float) where
 
   lower-says : (k : ℕ) → List·Memᴰ k three → cornerBy (signsBy l) (ordersBy l) (lowerLine k) (upperLine k) ≡ getD (answerOf l .«v_in_u») k false
   unfolding cornerIn
-  lower-says k m = corner-flag k (below-three k m)
+  lower-says k m = sym (corner-flag k (below-three k m))
 
   -- the front of the room, after an answer
   pub front : (room : List Float) → take (2 * answered l room .answer .n) (answered l room .room) ≡ valuesOfCorners (ringPositions l)
@@ -103,5 +108,6 @@ demand3 l room h =
       counted = rw q refl;
       holds = rw q (held l);
       joined = rw q (sound l .joined);
+      flagged = λ a m. rw q (neighbour-flag l a (below-three a m) ∙ sound l .flagged a m);
       positions = rw q (front l room);
     }

@@ -6,9 +6,10 @@ use mathlib.Core.List.{List, map, List·Memᴰ}
 use Prim.Native.Nat.{ℕ, _*_}
 use lib.ListN.{getD, length, take}
 use lib.Ieee.{Float}
+use Rattle.floats.specs.Lists.{any}
 use Rattle.lines.specs.Lines.{three, lowerLine, upperLine}
 use Rattle.lines.specs.Round.{edgesAcross, cornerBy}
-use Rattle.ring.specs.Places.{Place, vertex, corner, crossing}
+use Rattle.ring.specs.Places.{Place, vertex, corner, crossing, ofV, lies}
 use Rattle.ring.specs.Flags.{crossingOn}
 use Rattle.ring.specs.Demand.{NoneOrThreeToSix, Holds, Closed}
 use Rattle.triangles.specs.declared.Answer.{Answer}
@@ -35,6 +36,8 @@ pub record Demand3 (l room : List Float) : Type 0 where
   pub holds : Holds (foundIn l (wholeOf l room .answer)) (wholeOf l room .ring)
   -- each place and the next, and the last and the first, lie on a common edge of one triangle
   pub joined : Closed (wholeOf l room .ring)
+  -- beyond the demand: the answer's neighbour flag of V's edge a is set exactly if a place of the ring lies on that edge
+  pub flagged : (a : ℕ) → List·Memᴰ a three → getD (wholeOf l room .answer .neighbour) a false ≡ any (lies (ofV a)) (wholeOf l room .ring)
   -- the first 2n values of the room are the positions of the ring's places, in order
   pub positions : take (2 * wholeOf l room .answer .n) (wholeOf l room .room) ≡ valuesOfCorners (map (positionOf l) (wholeOf l room .ring))
 
