@@ -1,3 +1,4 @@
 pub mod Every
 pub mod Edge
 pub mod Turned
+pub mod Asked

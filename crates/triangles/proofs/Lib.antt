@@ -5,3 +5,4 @@ pub mod Demand
 pub mod Rest
 pub mod FiniteAnswer
 pub mod Told
+pub mod Judged

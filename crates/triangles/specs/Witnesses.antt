@@ -109,8 +109,8 @@ underflowedD = refusedWith 3 (bits (0x3ff0000000000000 ∷ 0x3ff0000000000000 �
     ∷ 0x0000000000000000 ∷ 0x0000000000000000 ∷ 0x1e30000000000000 ∷ 0x0000000000000000 ∷ 0x0000000000000000 ∷ 0x1e30000000000000 ∷ []))
 
 -- w is (d − x) − y: taken as d − (x + y), U0 would be in V
-abbrev wInItsOrder : Case
-wInItsOrder = record {
+abbrev wNotFromTheSum : Case
+wNotFromTheSum = record {
   values = bits (0x4008cccccccccccd ∷ 0x3feccccccccccccd ∷ 0xc018000000000000 ∷ 0x4022000000000000 ∷ 0x4000000000000000 ∷ 0x3ff0000000000000
       ∷ 0x0000000000000000 ∷ 0x0000000000000000 ∷ 0x4010000000000000 ∷ 0x0000000000000000 ∷ 0x0000000000000000 ∷ 0x4010000000000000 ∷ []);
   number = 0;
@@ -121,6 +121,21 @@ wInItsOrder = record {
   inU = flags false false false;
   neighbour = flags true false true;
   tests = 1;
+}
+
+-- .. and taken as (d − y) − x, U0 here would not be in V
+abbrev wFromXFirst : Case
+wFromXFirst = record {
+  values = bits (0x3fd3333333333333 ∷ 0x400d99999999999a ∷ 0xc018000000000000 ∷ 0x4022000000000000 ∷ 0x4000000000000000 ∷ 0x3ff0000000000000
+      ∷ 0x0000000000000000 ∷ 0x0000000000000000 ∷ 0x4010000000000000 ∷ 0x0000000000000000 ∷ 0x0000000000000000 ∷ 0x4010000000000000 ∷ []);
+  number = 0;
+  n = 4;
+  corners = bits (0x3fd3333333333333 ∷ 0x400d99999999999a ∷ 0x0000000000000000 ∷ 0x400f9e79e79e79e8 ∷ 0x0000000000000000 ∷ 0x4008000000000000 ∷ 0x4000000000000000 ∷ 0x3ff0000000000000 ∷ []);
+  area = ofBits binary64 0x3ff2492492492492;
+  inV = flags true false true;
+  inU = flags false false false;
+  neighbour = flags true false false;
+  tests = 0;
 }
 
 -- case F with U0 at negative zeros, which are copied as they are
@@ -246,7 +261,8 @@ witnesses =
     ∷ flatVFirst
     ∷ overflowFirst
     ∷ underflowedD
-    ∷ wInItsOrder
+    ∷ wNotFromTheSum
+    ∷ wFromXFirst
     ∷ negativeZerosCopied
     ∷ negativeZeroPlus
     ∷ negatedZero
