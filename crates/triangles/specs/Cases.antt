@@ -6,7 +6,7 @@ use mathlib.Core.List.{List, [], _∷_, _++_, map}
 use Prim.Native.Nat.{ℕ, _*_, _^_}
 use lib.IntN.{ℤ, pos, negsuc}
 use lib.ListN.{length, drop, replicate, set}
-use lib.Ieee.{Float, nan, binary64, ofInt}
+use lib.Ieee.{Float, nan, binary64, ofInt, ofBits}
 use Rattle.lines.specs.Lines.{upFrom}
 use Rattle.triangles.specs.Positions.{half}
 use Rattle.triangles.specs.Answers.{wholeOf, noFlags}
@@ -14,6 +14,10 @@ use Rattle.triangles.specs.Answers.{wholeOf, noFlags}
 -- a whole number as f64: `pos k` is k, `negsuc k` is −(k + 1)
 abbrev pub whole : ℤ → Float
 whole = ofInt binary64
+
+-- values by their bit patterns
+abbrev pub bits : List ℕ → List Float
+bits = map (ofBits binary64)
 
 pub record Case : Type 0 where
   -- twelve values, U first

@@ -6,4 +6,6 @@ pub mod Rows
 pub mod Promise
 pub mod Demand
 pub mod Cases
+pub mod Overflows
+pub mod TiesAndZeros
 pub mod Witnesses
