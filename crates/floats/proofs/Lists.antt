@@ -142,3 +142,10 @@ same-by-three f g t x y z =
     (each-at (λ z. eqb (f x y z) (g x y z))
     (each-at (λ y. each (λ z. eqb (f x y z) (g x y z)))
     (each-at (λ x. each (λ y. each (λ z. eqb (f x y z) (g x y z)))) t x) y) z)
+
+-- ---- a choice whose test is known
+pub taken : {A : Type 0} {b : Bool} {x r : A} (y : A) → b ≡ true → r ≡ x → r ≡ cond b x y
+taken {b} {x} {r} y h e = subst (λ t. r ≡ cond t x y) (sym h) e
+
+pub left : {A : Type 0} {b : Bool} {y r : A} (x : A) → b ≡ false → r ≡ y → r ≡ cond b x y
+left {b} {y} {r} x h e = subst (λ t. r ≡ cond t x y) (sym h) e

@@ -5,6 +5,7 @@ use lib.Ieee.{Float, binary64, add, sub, mul, div, neg, lt, le, eq}
 use Rattle.floats.specs.Lists.{all}
 use Rattle.floats.specs.Finite.{finite, nought}
 use Rattle.floats.specs.Numbers.{Numbers, Point}
+use Rattle.floats.specs.declared.Position.{Position}
 
 infixl 65 _⊕_
 infixl 65 _⊖_
@@ -57,3 +58,7 @@ f64 = record {
 
 abbrev pub givenPoint : Float → Float → Point Way
 givenPoint x y = record { x = given x; y = given y }
+
+-- a position as the code has it
+abbrev pub at : Position → Point Way
+at p = givenPoint (p .x) (p .y)

@@ -4,3 +4,4 @@ pub mod Two
 pub mod Corner
 pub mod Told
 pub mod Corners
+pub mod Tables

@@ -29,21 +29,27 @@ cornerOn a b = getD (getD cornerTable a []) b 0
 abbrev pub lineTable : List (List ℕ)
 lineTable = (0 ∷ 1 ∷ []) ∷ (1 ∷ 2 ∷ []) ∷ (0 ∷ 2 ∷ []) ∷ []
 
+abbrev pub lineOf : ℕ → ℕ → ℕ
+lineOf k i = getD (getD lineTable k []) i 0
+
 abbrev pub lowerLine : ℕ → ℕ
-lowerLine k = getD (getD lineTable k []) 0 0
+lowerLine k = lineOf k 0
 
 abbrev pub upperLine : ℕ → ℕ
-upperLine k = getD (getD lineTable k []) 1 0
+upperLine k = lineOf k 1
 
 -- the two ends of U's edges, in the direction of the walk round U: 0 to 1, 1 to 2, 2 to 0
 abbrev pub endTable : List (List ℕ)
 endTable = (0 ∷ 1 ∷ []) ∷ (1 ∷ 2 ∷ []) ∷ (2 ∷ 0 ∷ []) ∷ []
 
+abbrev pub endOf : ℕ → ℕ → ℕ
+endOf e i = getD (getD endTable e []) i 0
+
 abbrev pub start : ℕ → ℕ
-start e = getD (getD endTable e []) 0 0
+start e = endOf e 0
 
 abbrev pub finish : ℕ → ℕ
-finish e = getD (getD endTable e []) 1 0
+finish e = endOf e 1
 
 -- the same two, by their numbers
 abbrev pub lowerEnd : ℕ → ℕ

@@ -2,3 +2,4 @@ pub mod Every
 pub mod Edge
 pub mod Turned
 pub mod Asked
+pub mod Coded

@@ -1,2 +1,3 @@
 pub mod PairTest
 pub mod Order
+pub mod Code

@@ -1,0 +1,40 @@
+-- V's corner on two lines, from its table; beyond the table it is 0.
+use mathlib.Core.Path.{refl}
+use native.Mathlib.Omega.{arith}
+use lib.Dec.{T}
+use borrow.Author.Needs.{needs}
+use Rattle.floats.specs.Lists.{all}
+use Rattle.lines.specs.Lines.{cornerTable}
+use Rattle.lines.proofs.Tables.{small, entry-below, beyond-row, beyond-column}
+use Rattle.lines.proofs.corner_on.Statement.{statement}
+use Rattle.lines.proofs.corner_on.Tie as tie
+
+is-small : T (small 3 cornerTable)
+unfolding small all
+is-small = tt
+
+mul-result : tie.Need-mul-result
+mul-result c = search needs
+
+mul-result-2 : tie.Need-mul-result-2
+mul-result-2 c = search needs
+
+index-1-result : tie.Need-index-1-result
+index-1-result c = search needs
+
+index-2-result : tie.Need-index-2-result
+index-2-result c = search needs
+
+returns : tie.Need-returns
+returns c = let x = c .before .before .before .args in (refl, entry-below 3 cornerTable (x .a) (x .b) is-small)
+
+returns-2 : tie.Need-returns-2
+returns-2 c = let x = c .before .before .args in (beyond-column 3 cornerTable (x .a) (x .b) is-small (c .if2 .left), omega arith)
+
+returns-3 : tie.Need-returns-3
+returns-3 c = let x = c .before .args in (beyond-row cornerTable (x .a) (x .b) (c .if1 .left), omega arith)
+
+pub corner-on-spec : {M : Type 1} → statement M
+corner-on-spec =
+    tie.close
+    (tie.spec mul-result mul-result-2 index-1-result index-2-result returns returns-2 returns-3)
