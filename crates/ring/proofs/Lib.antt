@@ -2,3 +2,4 @@ pub mod Walks
 pub mod Sweep
 pub mod Demand
 pub mod Sizes
+pub mod Coded

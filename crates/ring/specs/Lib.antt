@@ -2,3 +2,4 @@ pub mod Places
 pub mod Flags
 pub mod Ring
 pub mod Demand
+pub mod Code
