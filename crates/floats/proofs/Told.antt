@@ -81,6 +81,23 @@ mul-both (fin s m e) nan = refl
 mul-both (fin s m e) (inf t) = never (eqb m 0) (unlike s t)
 mul-both (fin s m e) (fin t n d) = refl
 
+-- so a finite sum, difference or product has finite operands
+pub add-operands : (x y : Float) → finite (add binary64 x y) ≡ true → (finite x ≡ true) × (finite y ≡ true)
+unfolding Both
+add-operands x y = both x y (add binary64 x y) (add-both x y)
+
+pub sub-operands : (x y : Float) → finite (sub binary64 x y) ≡ true → (finite x ≡ true) × (finite y ≡ true)
+unfolding Both
+sub-operands x y = both x y (sub binary64 x y) (sub-both x y)
+
+pub mul-operands : (x y : Float) → finite (mul binary64 x y) ≡ true → (finite x ≡ true) × (finite y ≡ true)
+unfolding Both
+mul-operands x y = both x y (mul binary64 x y) (mul-both x y)
+
+pub turned-operand : (b : Bool) (a : Way) → finite (cond b (negated a) a .value) ≡ true → finite (a .value) ≡ true
+turned-operand true a h = sym (neg-finite (a .value)) ∙ h
+turned-operand false a h = h
+
 -- ---- a result that is finite only where its operands are tells
 tells : (a b : Way) (v : Float) → Kept a → Kept b → Both (a .value) (b .value) v → Told (step v (a .way ++ b .way))
 unfolding Both
@@ -135,6 +152,21 @@ pub told-crossFrom : (a b c : Point Way) → KeptPoint a → KeptPoint b → Kep
 told-crossFrom a b c ka kb kc =
     told-cross (b .x ⊖ a .x) (b .y ⊖ a .y) (c .x ⊖ a .x) (c .y ⊖ a .y)
     (kept-sub _ _ (kb .0) (ka .0)) (kept-sub _ _ (kb .1) (ka .1)) (kept-sub _ _ (kc .0) (ka .0)) (kept-sub _ _ (kc .1) (ka .1))
+
+-- a finite cross of differences was taken of finite points
+abbrev pub FinitePoint : Point Way → Type 0
+FinitePoint p = (finite (p .x .value) ≡ true) × (finite (p .y .value) ≡ true)
+
+pub crossFrom-operands : (a b c : Point Way) → finite (crossFrom f64 a b c .value) ≡ true → FinitePoint a × FinitePoint b × FinitePoint c
+crossFrom-operands a b c h =
+    let products = sub-operands (((b .x ⊖ a .x) ⊗ (c .y ⊖ a .y)) .value) (((b .y ⊖ a .y) ⊗ (c .x ⊖ a .x)) .value) h in
+    let p = mul-operands ((b .x ⊖ a .x) .value) ((c .y ⊖ a .y) .value) (products .0) in
+    let q = mul-operands ((b .y ⊖ a .y) .value) ((c .x ⊖ a .x) .value) (products .1) in
+    let bx = sub-operands (b .x .value) (a .x .value) (p .0) in
+    let cy = sub-operands (c .y .value) (a .y .value) (p .1) in
+    let by = sub-operands (b .y .value) (a .y .value) (q .0) in
+    let cx = sub-operands (c .x .value) (a .x .value) (q .1) in
+    ((bx .1, by .1), (bx .0, by .0), (cx .0, cy .0))
 
 -- ---- a quotient hides what is on its way: 1 divided by the sum of the two largest values is a finite zero, and not fine
 abbrev largest : Float

@@ -26,7 +26,7 @@ use Rattle.ring.proofs.Walks.{every-walk}
 use Rattle.ring.proofs.Sweep.{joined, linked, isClosed, isSize, exact, within, byPlaces, sound, all-sound}
 
 -- ---- the tests as statements
-same-place : (p q : Place) → T (samePlace p q) → p ≡ q
+pub same-place : (p q : Place) → T (samePlace p q) → p ≡ q
 unfolding samePlace
 same-place (vertex i) (vertex j) t = rw (eqb→eq i j t) refl
 same-place (vertex i) (corner l) t = absurd t

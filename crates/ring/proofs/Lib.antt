@@ -3,3 +3,4 @@ pub mod Sweep
 pub mod Demand
 pub mod Sizes
 pub mod Coded
+pub mod Beyond

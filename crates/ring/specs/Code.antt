@@ -2,11 +2,11 @@
 -- Definitions only.
 use mathlib.Core.Bool.{Bool, true, false, not, _&&_, _||_, cond}
 use mathlib.Core.List.{List, [], _∷_, map, reverse}
-use Prim.Native.Nat.{ℕ, _+_, _*_}
+use Prim.Native.Nat.{ℕ, _+_, _-_, _*_, _/_, _%_}
 use lib.Dec.{eqb, ltb}
 use lib.ListN.{getD, set, take}
 use Rattle.floats.specs.Lists.{differ}
-use Rattle.lines.specs.Lines.{cornerOn, lowerLine, upperLine, sign}
+use Rattle.lines.specs.Lines.{cornerOn, lowerLine, upperLine, sign, signsAt}
 use Rattle.order.specs.Order.{orderAt}
 use Rattle.order.specs.Code.{beforeIn}
 use Rattle.ring.specs.declared.Corner.{Corner}
@@ -123,7 +123,17 @@ ringOf ss os =
     let w = walkOf s t u (a .on) (b .on) (c .on) k in
     record { places = w .places; n = w .n; «u_in_v» = allPlus s ∷ allPlus t ∷ allPlus u ∷ []; «v_in_u» = k; neighbour = neighboursOf (a .on) (b .on) (c .on) k }
 
+-- one of V's lines has all three vertices of U on its minus side
+abbrev pub beyondALine : List (List Bool) → Bool
+beyondALine ss =
+    let plus : ℕ → Bool = λ a. signsAt ss 0 a || (signsAt ss 1 a || signsAt ss 2 a) in
+    not (plus 0 && (plus 1 && plus 2))
+
 -- ---- against the rules
+-- the place of a number
+abbrev pub placeOf : ℕ → Place
+placeOf k = cond (ltb k 3) (vertex k) (cond (ltb k 6) (corner (k - 3)) (crossing ((k - 6) / 3) ((k - 6) % 3)))
+
 -- the numbers of the ring's places
 abbrev pub codesOf : Ring → List ℕ
 codesOf r = take (r .n) (map (λ c. c .code) (r .places))

@@ -1,7 +1,7 @@
 // Flags and ring of two triangles, from the signs of U's vertices and the orders along U's edges.
 ghost use mathlib.Core.Path.{_≡_};
 ghost use Prim.Native.Nat.{_<_, _≤_};
-ghost use Rattle.ring.specs.Code.{edgeOf, begun, pushed, lineAmong, isOnLine, cornered, entering, leaving, alongEdge, closing, insideOf, neighboursOf, allPlus, walkOf, ringOf};
+ghost use Rattle.ring.specs.Code.{edgeOf, begun, pushed, lineAmong, isOnLine, cornered, entering, leaving, alongEdge, closing, insideOf, neighboursOf, allPlus, walkOf, ringOf, beyondALine};
 
 // A place of the ring: 0 to 2 a vertex of U, 3 to 5 a corner of V, 6 + 3 · edge + line a crossing.
 pub struct Corner {
@@ -266,4 +266,14 @@ pub fn ring_of(signs: [[bool; 3]; 3], before: [[bool; 3]; 3]) -> Ring
         v_in_u: inside,
         neighbour: neighbours_of(p, q, r, inside),
     }
+}
+
+// Whether one of V's lines has all three vertices of U on its minus side. Then no pair test is computed, and there is neither a flag nor a ring.
+pub fn apart(signs: [[bool; 3]; 3]) -> bool
+    ensures { λ r. ⌜ r ≡ beyondALine signs ⌝ }
+{
+    let x = signs[0][0] | (signs[1][0] | signs[2][0]);
+    let y = signs[0][1] | (signs[1][1] | signs[2][1]);
+    let w = signs[0][2] | (signs[1][2] | signs[2][2]);
+    !(x & (y & w))
 }

@@ -6,3 +6,6 @@ pub mod Rest
 pub mod FiniteAnswer
 pub mod Told
 pub mod Judged
+pub mod Turns
+pub mod Decoded
+pub mod Front

@@ -9,3 +9,4 @@ pub mod Cases
 pub mod Overflows
 pub mod TiesAndZeros
 pub mod Witnesses
+pub mod Code
