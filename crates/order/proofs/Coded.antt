@@ -119,3 +119,39 @@ is-order p q =
     (and-r (all cornered (d .tests)) (sameOrdered (orderBy tests (signsOf p) (signsOf q)) (ordered (beforeIn (d .order)) fine)) t)
     ∙ ap (ordered (beforeIn (d .order)))
     (tests-fine p q (d .tests) (and-l (all cornered (d .tests)) (sameOrdered (orderBy tests (signsOf p) (signsOf q)) (ordered (beforeIn (d .order)) fine)) t))
+
+-- ---- an edge that is walked from its higher vertex has the same pair tests, and the order the other way round
+sameTests : List (ℕ × ℕ) → List (ℕ × ℕ) → Bool
+sameTests = sameList (λ s t. eqb (s .0) (t .0) && eqb (s .1) (t .1))
+
+same-tests : (x y : List (ℕ × ℕ)) → T (sameTests x y) → x ≡ y
+unfolding sameTests
+same-tests = same-list _ (λ s t h. ap₂ (λ a b. (a, b)) (eqb→eq (s .0) (t .0) (and-l (eqb (s .0) (t .0)) (eqb (s .1) (t .1)) h)) (eqb→eq (s .1) (t .1) (and-r (eqb (s .0) (t .0)) (eqb (s .1) (t .1)) h)))
+
+unfoldable walkedBack : List Bool → List Bool → List Bool → Bool
+unfolding orderAlong sameOrder sameTests sameList
+walkedBack t p q =
+    let back = orderAlong t true (sign q) (sign p) in
+    let d = orderAlong t false (sign p) (sign q) in
+    sameOrder (reverse (back .order)) (d .order) && sameTests (back .tests) (d .tests)
+
+all-walked-back : T (all (λ t. all (λ p. all (walkedBack t p) seven) seven) eight)
+unfolding all seven eight walkedBack
+all-walked-back = tt
+
+module _ (t p q : List Bool) (mt : List·Memᴰ t eight) (mp : List·Memᴰ p seven) (mq : List·Memᴰ q seven) where
+  abbrev back : Decided
+  back = orderAlong t true (sign q) (sign p)
+
+  abbrev forth : Decided
+  forth = orderAlong t false (sign p) (sign q)
+
+  is-walked-back : T (sameOrder (reverse (back .order)) (forth .order) && sameTests (back .tests) (forth .tests))
+  unfolding walkedBack
+  is-walked-back = all-at (walkedBack t p) seven (all-at (λ p. all (walkedBack t p) seven) seven (all-at (λ t. all (λ p. all (walkedBack t p) seven) seven) eight all-walked-back mt) mp) mq
+
+  pub back-order : reverse (back .order) ≡ forth .order
+  back-order = same-order _ _ (and-l (sameOrder (reverse (back .order)) (forth .order)) (sameTests (back .tests) (forth .tests)) is-walked-back)
+
+  pub back-tests : back .tests ≡ forth .tests
+  back-tests = same-tests _ _ (and-r (sameOrder (reverse (back .order)) (forth .order)) (sameTests (back .tests) (forth .tests)) is-walked-back)

@@ -25,7 +25,7 @@ at-most-six (inl h) = omega arith
 at-most-six (inr h) = omega (arith, h .1)
 
 module _ (l room : List Float) where
-  ring-fits : length (ringOf l) ≤ 6
+  pub ring-fits : length (ringOf l) ≤ 6
   unfolding ringOf
   ring-fits = at-most-six (sound l .size)
 

@@ -178,7 +178,7 @@ module _ (l room : List Float) where
   same-row : (a b : Row) → rankOf a ≡ rankOf b → a ≡ b
   same-row a b h = sym (at-rank a) ∙ (ap (λ i. getD table i lengths) h ∙ at-rank b)
 
-  nonzero : (row : Row) → numberOf row ≡ 0 → ⊥
+  pub nonzero : (row : Row) → numberOf row ≡ 0 → ⊥
   nonzero lengths h = omega arith
   nonzero coordinates h = omega arith
   nonzero wayToD h = omega arith

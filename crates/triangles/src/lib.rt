@@ -1,5 +1,6 @@
 // The answer of two triangles.
 ghost use mathlib.Core.Path.{_≡_};
+ghost use mathlib.Core.Bool.{true};
 ghost use mathlib.Core.List.{[], _∷_};
 ghost use Prim.Native.Nat.{_*_, _<_, _≤_};
 ghost use lib.ListN.{length, take};
@@ -7,6 +8,7 @@ ghost use Rattle.floats.specs.Lists.{all};
 ghost use Rattle.floats.specs.Finite.{finite};
 ghost use Rattle.ring.specs.Code.{placeOf, befores};
 ghost use Rattle.triangles.specs.Pair.{dOfV, eOfU, paramsOf, vertexSigns, edgeOrders};
+ghost use Rattle.triangles.specs.Refusals.{wayToPairTest, wayOf};
 ghost use Rattle.triangles.specs.Answers.{refusal, written};
 ghost use Rattle.triangles.specs.Promise.{Promise};
 ghost use Rattle.triangles.specs.Code.{positionAt, frontOf, spotOn, crossSpot, spotOf, spotsTo, fineTo, sumBy, areaBy};
@@ -252,4 +254,97 @@ fn write(room: &mut [f64], xy: [f64; 12], n: usize)
         room[i] = xy[i];
         i += 1;
     }
+}
+
+// From the orders on: ring, positions and area, and only then the room.
+fn placed(
+    values: &[f64],
+    room: &mut [f64],
+    params: [lines::Params; 3],
+    signs: [[bool; 3]; 3],
+    before: [[bool; 3]; 3],
+) -> Answer
+    requires { ⌜ (length (now values) ≡ 12) × (12 ≤ length (now room)) × (frontOf (now values) ≡ 0) × (all finite (wayOf wayToPairTest (now values)) ≡ true) ⌝ }
+    requires { ⌜ (params ≡ paramsOf (now values) 0 ∷ paramsOf (now values) 1 ∷ paramsOf (now values) 2 ∷ []) × (signs ≡ vertexSigns (now values)) × (before ≡ befores (edgeOrders (now values))) ⌝ }
+    ensures { λ r. ⌜ Promise (now (values .entry)) (now (room .entry)) r (now (room .exit)) ⌝ }
+{
+    let w = ring::ring_of(signs, before);
+    let places = w.places;
+    let n = w.n;
+    let c = corners_of(values, params, signs, places, n);
+    let xy = c.xy;
+    let area = area_of(xy, n);
+    if c.fine & floats::is_finite(area) {
+        write(room, xy, n);
+        let u_in_v = w.u_in_v;
+        let v_in_u = w.v_in_u;
+        let neighbour = w.neighbour;
+        return Answer {
+            number: 0,
+            n: n as u32,
+            area,
+            u_in_v,
+            v_in_u,
+            neighbour,
+        };
+    }
+    refused(4)
+}
+
+// From the parameters on. Where all of U lies beyond one of V's lines nothing is found; else the orders along U's edges are decided, all three.
+fn ordered(
+    values: &[f64],
+    room: &mut [f64],
+    p: lines::Params,
+    q: lines::Params,
+    r: lines::Params,
+) -> Answer
+    requires { ⌜ (length (now values) ≡ 12) × (12 ≤ length (now room)) × (frontOf (now values) ≡ 0) ⌝ }
+    requires { ⌜ (p ≡ paramsOf (now values) 0) × (q ≡ paramsOf (now values) 1) × (r ≡ paramsOf (now values) 2) ⌝ }
+    ensures { λ r. ⌜ Promise (now (values .entry)) (now (room .entry)) r (now (room .exit)) ⌝ }
+{
+    let s = lines::signs_of(p);
+    let t = lines::signs_of(q);
+    let u = lines::signs_of(r);
+    if ring::apart([s, t, u]) {
+        return refused(0);
+    }
+    let a = order::order_of(p, q, s, t);
+    let b = order::order_of(q, r, t, u);
+    let c = order::order_of(p, r, s, u);
+    if a.fine & (b.fine & c.fine) {
+        let x = a.before;
+        let y = b.before;
+        let z = c.before;
+        return placed(values, room, [p, q, r], [s, t, u], [x, y, z]);
+    }
+    refused(4)
+}
+
+// Two triangles, U0x, U0y, .. V2y: the answer, with the ring's corners at the front of the room, or a refusal, with the room as it was.
+pub fn intersect(values: &[f64], room: &mut [f64]) -> Answer
+    ensures { λ r. ⌜ Promise (now (values .entry)) (now (room .entry)) r (now (room .exit)) ⌝ }
+{
+    if values.len() != 12 {
+        return refused(1);
+    }
+    if room.len() < 12 {
+        return refused(1);
+    }
+    let u0 = position_at(values, 0);
+    let u1 = position_at(values, 1);
+    let u2 = position_at(values, 2);
+    let v0 = position_at(values, 3);
+    let v1 = position_at(values, 4);
+    let v2 = position_at(values, 5);
+    let d = floats::cross_from(v0, v1, v2);
+    let e = floats::cross_from(u0, u1, u2);
+    let p = lines::params_of(d, v0, v1, v2, u0);
+    let q = lines::params_of(d, v0, v1, v2, u1);
+    let r = lines::params_of(d, v0, v1, v2, u2);
+    let k = number_of(values, d, e, p, q, r);
+    if k == 0 {
+        return ordered(values, room, p, q, r);
+    }
+    refused(k)
 }
