@@ -168,11 +168,11 @@ fn cross_spot(values: &[f64], params: [lines::Params; 3], a: usize, i: usize, j:
 fn spot_of(
     values: &[f64],
     params: [lines::Params; 3],
-    signs: [[bool; 3]; 3],
+    signs: &[[bool; 3]; 3],
     place: ring::Corner,
 ) -> Spot
     requires { ⌜ length (now values) ≡ 12 ⌝ }
-    ensures { λ r. ⌜ r ≡ spotOf (now (values .entry)) params signs (placeOf (place .code)) ⌝ }
+    ensures { λ r. ⌜ r ≡ spotOf (now (values .entry)) params (now (signs .entry)) (placeOf (place .code)) ⌝ }
 {
     let code = place.code as usize;
     if code < 6 {
@@ -208,7 +208,7 @@ fn corners_of(
     let mut fine = true;
     let mut i = 0;
     while i < n {
-        let spot = spot_of(values, params, signs, places[i]);
+        let spot = spot_of(values, params, &signs, places[i]);
         xy[2 * i] = spot.x;
         xy[2 * i + 1] = spot.y;
         fine = fine & spot.fine;

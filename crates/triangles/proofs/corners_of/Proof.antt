@@ -14,10 +14,10 @@ use Rattle.triangles.proofs.corners_of.Statement.{statement}
 use Rattle.triangles.proofs.corners_of.Tie as tie
 
 abbrev Inv-loop : tie.InvT-loop
-Inv-loop values params signs n places xy₀ fine₀ i₀ xy fine i = (i ≤ n) × (length xy ≡ 12) × (take (2 * i) xy ≡ spotsTo values params signs places i) × (fine ≡ fineTo values params signs places i)
+Inv-loop values params n signs places xy₀ fine₀ i₀ xy fine i = (i ≤ n) × (length xy ≡ 12) × (take (2 * i) xy ≡ spotsTo values params signs places i) × (fine ≡ fineTo values params signs places i)
 
 abbrev μ-loop : tie.MeasureT-loop
-μ-loop values params signs n places xy₀ fine₀ i₀ xy fine i = n - i
+μ-loop values params n signs places xy₀ fine₀ i₀ xy fine i = n - i
 
 loop-holds : tie.Need-loop-holds Inv-loop μ-loop
 unfolding spotsTo fineTo
@@ -62,17 +62,18 @@ loop-again c =
     let b2 = b1 .before in
     let b3 = b2 .before in
     let b4 = b3 .before in
-    let g = b4 .before .before .args in
-    let inv = b4 .loop .inv in
-    let h = b3 .loop-test .taken in
-    (search needs, search needs, one-laid _ (g .params) (g .signs) (g .t4) _ _ (b1 .spot-of .ensures) _ (omega (arith, h, inv .1, c .before .before .before .before .before .before .pre .1)) (inv .2), one-fine _ (g .params) (g .signs) (g .t4) _ _ (b1 .spot-of .ensures) (inv .3))
+    let b5 = b4 .before in
+    let g = b5 .before .before .args in
+    let inv = b5 .loop .inv in
+    let h = b4 .loop-test .taken in
+    (search needs, search needs, one-laid _ (g .params) (g .t3) (g .t4) _ _ (b1 .spot-of .ensures) _ (omega (arith, h, inv .1, b5 .before .before .pre .1)) (inv .2), one-fine _ (g .params) (g .t3) (g .t4) _ _ (b1 .spot-of .ensures) (inv .3))
 
 returns : tie.Need-returns Inv-loop μ-loop
 returns c =
     let inv = c .before .loop .inv in
     let n = le-antisymm (inv .0) (c .loop-test .left) in
     let g = c .before .before .before .args in
-    (ap (λ k. take (2 * k) (c .before .loop .xy)) (sym n) ∙ (inv .2 ∙ ap (spotsTo _ (g .params) (g .signs) (g .t4)) n), inv .3 ∙ ap (fineTo _ (g .params) (g .signs) (g .t4)) n)
+    (ap (λ k. take (2 * k) (c .before .loop .xy)) (sym n) ∙ (inv .2 ∙ ap (spotsTo _ (g .params) (g .t3) (g .t4)) n), inv .3 ∙ ap (fineTo _ (g .params) (g .t3) (g .t4)) n)
 
 pub corners-of-spec : {M : Type 1} → statement M
 corners-of-spec =

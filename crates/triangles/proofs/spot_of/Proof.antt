@@ -1,5 +1,6 @@
 -- Below 6 a position of the input; above it a crossing, from the end that is plus.
 use mathlib.Core.Path.{ap, _∙_}
+use denote.Ref.{now}
 use Rattle.triangles.specs.Code.{copied}
 use Rattle.triangles.proofs.Decoded.{decoded-position, from-start, from-finish}
 use borrow.Author.Needs.{needs}
@@ -15,7 +16,7 @@ position-at-requires c κs = search needs
 returns : tie.Need-returns
 returns c =
     let g = c .before .before .before .before .args in
-    ap copied (c .position-at .ensures) ∙ decoded-position _ (g .params) (g .t3) (g .place .code) (c .before .if1 .taken)
+    ap copied (c .position-at .ensures) ∙ decoded-position _ (g .params) (now (g .signs)) (g .place .code) (c .before .if1 .taken)
 
 end-of-requires : tie.Need-end-of-requires
 end-of-requires c κs = search needs
@@ -46,7 +47,7 @@ returns-2 c =
     let b7 = b6 .before in
     let b8 = b7 .before in
     let g = b8 .args in
-    from-start _ (g .params) (g .t3) (g .place .code) _ _ _ (b5 .if1 .left) (b4 .end-of .ensures .0) (b3 .end-of2 .ensures .0) (b1 .if2 .taken) (c .cross-spot .ensures)
+    from-start _ (g .params) (now (g .signs)) (g .place .code) _ _ _ (b5 .if1 .left) (b4 .end-of .ensures .0) (b3 .end-of2 .ensures .0) (b1 .if2 .taken) (c .cross-spot .ensures)
 
 cross-spot-requires-2 : tie.Need-cross-spot-requires-2
 cross-spot-requires-2 c κs = search needs
@@ -62,7 +63,7 @@ returns-3 c =
     let b7 = b6 .before in
     let b8 = b7 .before in
     let g = b8 .args in
-    from-finish _ (g .params) (g .t3) (g .place .code) _ _ _ (b5 .if1 .left) (b4 .end-of .ensures .0) (b3 .end-of2 .ensures .0) (b1 .if2 .left) (c .cross-spot2 .ensures)
+    from-finish _ (g .params) (now (g .signs)) (g .place .code) _ _ _ (b5 .if1 .left) (b4 .end-of .ensures .0) (b3 .end-of2 .ensures .0) (b1 .if2 .left) (c .cross-spot2 .ensures)
 
 pub spot-of-spec : {M : Type 1} → statement M
 spot-of-spec =
