@@ -14,3 +14,4 @@ pub mod Edges
 pub mod Spots
 pub mod Laid
 pub mod Entry
+pub mod Returned

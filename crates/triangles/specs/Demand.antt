@@ -23,24 +23,25 @@ foundIn l a (vertex i) = getD (a .«u_in_v») i false
 foundIn l a (corner k) = getD (a .«v_in_u») k false
 foundIn l a (crossing e b) = crossingOn (signsBy l) (ordersBy l) e b
 
-pub record Demand3 (l room : List Float) : Type 0 where
+-- of the ring's places, an answer and the room afterwards
+pub record Demand3 (l : List Float) (places : List Place) (answer : Answer) (after : List Float) : Type 0 where
   -- each line of V is crossed by none or two edges of U
   pub noneOrTwo : (a : ℕ) → (edgesAcross (signsBy l) a ≡ 0) ⊎ (edgesAcross (signsBy l) a ≡ 2)
   -- both lines through a corner of V say the same of it, and the answer's flag is what they say
-  pub lowerSays : (k : ℕ) → List·Memᴰ k three → cornerBy (signsBy l) (ordersBy l) (lowerLine k) (upperLine k) ≡ getD (wholeOf l room .answer .«v_in_u») k false
-  pub upperSays : (k : ℕ) → List·Memᴰ k three → cornerBy (signsBy l) (ordersBy l) (upperLine k) (lowerLine k) ≡ getD (wholeOf l room .answer .«v_in_u») k false
+  pub lowerSays : (k : ℕ) → List·Memᴰ k three → cornerBy (signsBy l) (ordersBy l) (lowerLine k) (upperLine k) ≡ getD (answer .«v_in_u») k false
+  pub upperSays : (k : ℕ) → List·Memᴰ k three → cornerBy (signsBy l) (ordersBy l) (upperLine k) (lowerLine k) ≡ getD (answer .«v_in_u») k false
   -- the ring has no place, or three to six, and n is their number
-  pub size : NoneOrThreeToSix (length (wholeOf l room .ring))
-  pub counted : wholeOf l room .answer .n ≡ length (wholeOf l room .ring)
+  pub size : NoneOrThreeToSix (length places)
+  pub counted : answer .n ≡ length places
   -- each of the fifteen places stands in it exactly once if it was found inside or on an edge, not at all otherwise, and nothing else does
-  pub holds : Holds (foundIn l (wholeOf l room .answer)) (wholeOf l room .ring)
+  pub holds : Holds (foundIn l answer) places
   -- each place and the next, and the last and the first, lie on a common edge of one triangle
-  pub joined : Closed (wholeOf l room .ring)
+  pub joined : Closed places
   -- beyond the demand: the answer's neighbour flag of V's edge a is set exactly if a place of the ring lies on that edge
-  pub flagged : (a : ℕ) → List·Memᴰ a three → getD (wholeOf l room .answer .neighbour) a false ≡ any (lies (ofV a)) (wholeOf l room .ring)
+  pub flagged : (a : ℕ) → List·Memᴰ a three → getD (answer .neighbour) a false ≡ any (lies (ofV a)) places
   -- the first 2n values of the room are the positions of the ring's places, in order
-  pub positions : take (2 * wholeOf l room .answer .n) (wholeOf l room .room) ≡ valuesOfCorners (map (positionOf l) (wholeOf l room .ring))
+  pub positions : take (2 * answer .n) after ≡ valuesOfCorners (map (positionOf l) places)
 
 -- for every list of values and every room, unless refused
 abbrev pub DemandThree : Type 0
-DemandThree = (l room : List Float) → wholeOf l room .answer .number ≡ 0 → Demand3 l room
+DemandThree = (l room : List Float) → (let w = wholeOf l room in w .answer .number ≡ 0 → Demand3 l (w .ring) (w .answer) (w .room))

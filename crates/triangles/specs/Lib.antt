@@ -5,6 +5,7 @@ pub mod Answers
 pub mod Rows
 pub mod Promise
 pub mod Demand
+pub mod Returned
 pub mod Cases
 pub mod Overflows
 pub mod TiesAndZeros

@@ -9,7 +9,8 @@ use lib.Ieee.{Float, eq, binary64, ofBits}
 use Rattle.floats.specs.Finite.{finite, nought}
 use Rattle.triangles.specs.Pair.{dOfV, eOfU}
 use Rattle.triangles.specs.Refusals.{Row, lengths, coordinates, wayToD, dZero, wayToE, eZero, wayToParameter, wayToPairTest, wayToPosition, wayToArea, numberOf, wayOf}
-use Rattle.triangles.specs.Answers.{Whole, wholeOf}
+use Rattle.triangles.specs.declared.Answer.{Answer}
+use Rattle.triangles.specs.Answers.{wholeOf}
 
 -- one of these values is not finite
 abbrev pub NotFinite : List Float → Type 0
@@ -55,13 +56,13 @@ abbrev pub NoRow : List Float → List Float → Type 0
 NoRow l room = (row : Row) → Applies row l room → ⊥
 
 -- zeros beside the number, and the room as it was lent
-pub record Untouched (w : Whole) (room : List Float) : Type 0 where
-  pub n : w .answer .n ≡ 0
-  pub area : w .answer .area ≡ ofBits binary64 0
-  pub noVertex : w .answer .«u_in_v» ≡ false ∷ false ∷ false ∷ []
-  pub noCorner : w .answer .«v_in_u» ≡ false ∷ false ∷ false ∷ []
-  pub noNeighbour : w .answer .neighbour ≡ false ∷ false ∷ false ∷ []
-  pub room-is : w .room ≡ room
+pub record Untouched (answer : Answer) (after room : List Float) : Type 0 where
+  pub n : answer .n ≡ 0
+  pub area : answer .area ≡ ofBits binary64 0
+  pub noVertex : answer .«u_in_v» ≡ false ∷ false ∷ false ∷ []
+  pub noCorner : answer .«v_in_u» ≡ false ∷ false ∷ false ∷ []
+  pub noNeighbour : answer .neighbour ≡ false ∷ false ∷ false ∷ []
+  pub room-is : after ≡ room
 
 pub record ExactlyWhen (l room : List Float) : Type 0 where
   -- the answer has the refusal's number k exactly if a row with that number applies and no earlier row does
@@ -69,4 +70,4 @@ pub record ExactlyWhen (l room : List Float) : Type 0 where
   -- and number 0 exactly if no row applies
   pub answered : (wholeOf l room .answer .number ≡ 0) ↔ NoRow l room
   -- and with a refusal's number come zeros, and the room as it was
-  pub nothingElse : (wholeOf l room .answer .number ≡ 0 → ⊥) → Untouched (wholeOf l room) room
+  pub nothingElse : (wholeOf l room .answer .number ≡ 0 → ⊥) → Untouched (wholeOf l room .answer) (wholeOf l room .room) room
