@@ -3,7 +3,7 @@ ghost use mathlib.Core.Path.{_≡_};
 ghost use Prim.Native.Nat.{_<_, _≤_};
 ghost use Rattle.ring.specs.Code.{edgeOf, begun, pushed, lineAmong, isOnLine, cornered, entering, leaving, alongEdge, closing, insideOf, neighboursOf, allPlus, walkOf, ringOf, beyondALine};
 
-// A place of the ring: 0 to 2 a vertex of U, 3 to 5 a corner of V, 6 + 3 · edge + line a crossing.
+// A place of the ring, by number: U's vertices are 0, 1, 2, V's corners 3, 4, 5, and from 6 on each edge of U has three crossings, by line.
 pub struct Corner {
     pub code: u8,
 }

@@ -1,0 +1,119 @@
+//! Time a pair, the library and the second program in turn over the same pairs.
+
+use std::process::ExitCode;
+use std::time::Instant;
+
+use second::library;
+use second::triangles;
+use second::workloads::{fold, pairs, unforeseen, Values, NAMES};
+
+const PAIRS: usize = 2_000;
+const ROUNDS: usize = 600;
+
+fn main() -> ExitCode {
+    println!(
+        "{:<8} {:>6} {:>23} {:>23} {:>15}",
+        "", "meet", "library ns/pair", "second ns/pair", "library/second"
+    );
+    println!(
+        "{:<8} {:>6} {:>23} {:>23} {:>15}",
+        "pairs", "%", "least  median", "least  median", "least  median"
+    );
+    for name in NAMES {
+        let prepared = pairs(name, PAIRS).expect("every named workload exists");
+        if everything(&prepared, by_library) != everything(&prepared, by_second) {
+            println!("{name}: the two programs answer differently");
+            return ExitCode::FAILURE;
+        }
+        measure(name, &prepared);
+    }
+    ExitCode::SUCCESS
+}
+
+/// All that an answer says, gathered into numbers.
+type Gathered = ([u64; 3], [u8; 9]);
+
+fn by_library(values: &[f64], room: &mut [f64]) -> Gathered {
+    let a = library::intersect(values, room);
+    let flags = [a.u_in_v, a.v_in_u, a.neighbour];
+    ([u64::from(a.number), u64::from(a.n), a.area.to_bits()], flat(flags))
+}
+
+fn by_second(values: &[f64], room: &mut [f64]) -> Gathered {
+    let a = triangles::intersect(values, room);
+    let flags = [a.u_in_v, a.v_in_u, a.neighbour].map(|three| three.map(u8::from));
+    ([u64::from(a.number), u64::from(a.n), a.area.to_bits()], flat(flags))
+}
+
+fn flat(flags: [[u8; 3]; 3]) -> [u8; 9] {
+    flags.concat().try_into().expect("three times three are nine")
+}
+
+/// A checksum over answers, flags and rooms; not timed.
+fn everything(pairs: &[Values], call: fn(&[f64], &mut [f64]) -> Gathered) -> u64 {
+    let mut sum = 0u64;
+    let mut add = |bits: u64| sum = (sum ^ bits).wrapping_mul(0x9e37_79b9_7f4a_7c15).rotate_left(29);
+    for values in pairs {
+        let mut room = [-1.0; 12];
+        let (numbers, flags) = call(values, &mut room);
+        numbers.into_iter().for_each(&mut add);
+        flags.into_iter().for_each(|flag| add(u64::from(flag)));
+        room.into_iter().for_each(|value| add(value.to_bits()));
+    }
+    sum
+}
+
+fn measure(name: &str, pairs: &[Values]) {
+    let (mut of_library, mut of_second) = (Vec::new(), Vec::new());
+    for round in 0..ROUNDS {
+        // Whoever goes first finds the caches colder, so they take turns at it.
+        if round % 2 == 0 {
+            of_library.push(time_library(pairs));
+            of_second.push(time_second(pairs));
+        } else {
+            of_second.push(time_second(pairs));
+            of_library.push(time_library(pairs));
+        }
+    }
+    let (library, second) = (least_and_median(of_library), least_and_median(of_second));
+    let meeting = pairs.iter().filter(|values| triangles::intersect(*values, &mut [0.0; 12]).n > 0).count();
+    println!(
+        "{name:<8} {:>6.1} {:>13.1} {:>9.1} {:>13.1} {:>9.1} {:>7.3} {:>7.3}",
+        100.0 * meeting as f64 / pairs.len() as f64,
+        library.0,
+        library.1,
+        second.0,
+        second.1,
+        library.0 / second.0,
+        library.1 / second.1
+    );
+}
+
+fn time_library(pairs: &[Values]) -> f64 {
+    let mut room = [0.0; 12];
+    let begin = Instant::now();
+    let mut sum = 0;
+    for values in pairs {
+        let answer = library::intersect(unforeseen(values), &mut room);
+        sum = fold(sum, answer.number, answer.n, answer.area);
+    }
+    unforeseen(sum);
+    begin.elapsed().as_nanos() as f64 / pairs.len() as f64
+}
+
+fn time_second(pairs: &[Values]) -> f64 {
+    let mut room = [0.0; 12];
+    let begin = Instant::now();
+    let mut sum = 0;
+    for values in pairs {
+        let answer = triangles::intersect(unforeseen(values), &mut room);
+        sum = fold(sum, answer.number, answer.n, answer.area);
+    }
+    unforeseen(sum);
+    begin.elapsed().as_nanos() as f64 / pairs.len() as f64
+}
+
+fn least_and_median(mut times: Vec<f64>) -> (f64, f64) {
+    times.sort_by(f64::total_cmp);
+    (times[0], times[times.len() / 2])
+}

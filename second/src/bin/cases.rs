@@ -1,0 +1,106 @@
+//! Makes the input of a test program, or the output that it must give, on standard output.
+
+use std::fmt::Write as _;
+use std::io::{self, Write as _};
+use std::process::ExitCode;
+
+use second::case::Case;
+use second::classes::{draw, worked, CLASSES};
+use second::coverage::Coverage;
+use second::random::Random;
+use second::tally::Tally;
+use second::triangles::{intersect, intersect_traced};
+
+const SEED: u64 = 300;
+const CASES: usize = 320;
+/// How many cases of each class are taken as they come.
+const OF_EACH_CLASS: usize = 4;
+/// How often everything that is counted must occur.
+const SEVERAL: usize = 6;
+
+fn main() -> ExitCode {
+    let line_of = match std::env::args().nth(1).as_deref() {
+        Some("input") => input_line,
+        Some("expected") => expected_line,
+        _ => {
+            eprintln!("usage: cases input|expected");
+            return ExitCode::from(2);
+        }
+    };
+    let text: String = chosen().iter().map(line_of).collect();
+    match io::stdout().write_all(text.as_bytes()) {
+        Ok(()) => ExitCode::SUCCESS,
+        Err(error) => {
+            eprintln!("cannot write: {error}");
+            ExitCode::FAILURE
+        }
+    }
+}
+
+/// The worked cases, some of each class, then whatever is still rare, then any.
+fn chosen() -> Vec<Case> {
+    let mut random = Random::new(SEED);
+    let mut tally = Tally::default();
+    let mut cases = worked::in_turn();
+    for (index, class) in CLASSES.iter().enumerate() {
+        for _ in 0..OF_EACH_CLASS {
+            let case = plain(class.case(&mut random));
+            tally.count(index, &coverage_of(&case));
+            cases.push(case);
+        }
+    }
+    while tally.rows.iter().any(|row| row.count < SEVERAL) || cases.len() < CASES {
+        let class = draw(&mut random);
+        let case = plain(CLASSES[class].case(&mut random));
+        let coverage = coverage_of(&case);
+        let rare = tally.rows.iter().any(|row| row.count < SEVERAL);
+        let helps = Tally::rows_of(class, &coverage).iter().any(|row| tally.rows[*row].count < SEVERAL);
+        if helps || !rare {
+            tally.count(class, &coverage);
+            cases.push(case);
+        }
+    }
+    cases
+}
+
+/// With one NaN for all NaNs: a test program need not carry payloads.
+fn plain(mut case: Case) -> Case {
+    for value in case.values.iter_mut().filter(|value| value.is_nan()) {
+        *value = f64::from_bits(0x7ff8_0000_0000_0000);
+    }
+    case
+}
+
+fn coverage_of(case: &Case) -> Coverage {
+    let mut coverage = Coverage::default();
+    intersect_traced(&case.values, &mut room_for(case), &mut coverage);
+    coverage
+}
+
+/// What the test program lends: whole numbers from 1000 on.
+fn room_for(case: &Case) -> Vec<f64> {
+    (0..case.room_length).map(|k| 1000.0 + k as f64).collect()
+}
+
+fn input_line(case: &Case) -> String {
+    let mut line = format!("{:02x}", case.room_length);
+    append_values(&mut line, &case.values);
+    line + "\n"
+}
+
+fn expected_line(case: &Case) -> String {
+    let mut room = room_for(case);
+    let answer = intersect(&case.values, &mut room);
+    let mut line = format!("{} {} {:016x} ", answer.number, answer.n, answer.area.to_bits());
+    for flag in [answer.u_in_v, answer.v_in_u, answer.neighbour].concat() {
+        line.push(if flag { '1' } else { '0' });
+    }
+    append_values(&mut line, &room);
+    line + "\n"
+}
+
+fn append_values(line: &mut String, values: &[f64]) {
+    for value in values {
+        write!(line, " {:016x}", value.to_bits()).expect("a string takes all that is written to it");
+    }
+}

@@ -1,0 +1,146 @@
+//! What one pair went through, so that a comparison can say what it has covered.
+
+use crate::triangles::lines::{Parameters, Signs};
+use crate::triangles::numbers::{difference, Point};
+use crate::triangles::orders::{ends_of, lines_crossed, pair_test, Order};
+use crate::triangles::positions::crossing_position;
+use crate::triangles::ring::{Place, Ring};
+use crate::triangles::trace::Trace;
+use crate::triangles::Refusal;
+
+#[derive(Clone, Default)]
+pub struct Coverage {
+    pub refusal: Option<Refusal>,
+    pub denominator_overflowed: bool,
+    pub t_was_minus_zero: bool,
+    pub position_had_minus_zero: bool,
+    /// Ties: a pair test that came out as a zero of either sign.
+    pub pair_test_was_zero: bool,
+    signs: [Signs; 3],
+    parameters: [Parameters; 3],
+    /// By edge, then by the pair (0,1), (0,2), (1,2).
+    tested: [[bool; 3]; 3],
+    orders: Option<[Order; 3]>,
+    ring: Option<([Point; 3], Ring)>,
+    positions: Vec<Point>,
+}
+
+const PAIRS: [(usize, usize); 3] = [(0, 1), (0, 2), (1, 2)];
+
+impl Trace for Coverage {
+    fn refused(&mut self, refusal: Refusal) {
+        self.refusal = Some(refusal);
+    }
+
+    fn parameters(&mut self, parameters: &[Parameters; 3], signs: &[Signs; 3]) {
+        self.parameters = *parameters;
+        self.signs = *signs;
+    }
+
+    fn pair_test(&mut self, edge: usize, a: usize, b: usize) {
+        self.tested[edge][a + b - 1] = true;
+        if self.test_on(edge, a, b) == Some(0.0) {
+            self.pair_test_was_zero = true;
+        }
+    }
+
+    fn orders(&mut self, orders: &[Order; 3]) {
+        self.orders = Some(*orders);
+    }
+
+    fn ring(&mut self, u: &[Point; 3], ring: &Ring) {
+        self.ring = Some((*u, *ring));
+    }
+
+    fn denominator_overflowed(&mut self) {
+        self.denominator_overflowed = true;
+    }
+
+    fn fraction(&mut self, t: f64) {
+        self.t_was_minus_zero |= is_minus_zero(t);
+    }
+
+    fn position(&mut self, position: Point) {
+        self.position_had_minus_zero |= is_minus_zero(position.x) || is_minus_zero(position.y);
+        self.positions.push(position);
+    }
+}
+
+impl Coverage {
+    pub fn accepted(&self) -> bool {
+        self.refusal.is_none()
+    }
+
+    pub fn ring_places(&self) -> &[Place] {
+        self.ring.as_ref().map_or(&[], |(_, ring)| ring.as_slice())
+    }
+
+    pub fn pair_tests_computed(&self) -> usize {
+        self.tested.iter().flatten().filter(|tested| **tested).count()
+    }
+
+    /// Whether the area was refused though all its differences are finite.
+    pub fn area_product_overflowed(&self) -> bool {
+        self.refusal == Some(Refusal::OverflowAtArea)
+            && self.positions.iter().all(|corner| difference(*corner, self.positions[0]).is_some())
+    }
+
+    /// Accepted, though on an edge that crosses `crossed` lines a test of two of them would have
+    /// overflowed had it been reached.
+    pub fn unreached_test_overflows(&self, crossed: usize) -> bool {
+        self.accepted()
+            && (0..3).any(|edge| {
+                let lines = lines_crossed(edge, &self.signs);
+                let on_edge = |line| lines.as_slice().contains(&line);
+                lines.len() == crossed
+                    && PAIRS.iter().enumerate().any(|(pair, &(a, b))| {
+                        on_edge(a)
+                            && on_edge(b)
+                            && !self.tested[edge][pair]
+                            && self.test_on(edge, a, b).is_none()
+                    })
+            })
+    }
+
+    /// Accepted, though a crossing that is not in the ring has no finite position, because of
+    /// t's denominator or because of Q − P.
+    pub fn unreached_position_overflows(&self, by_denominator: bool) -> bool {
+        let (u, ring) = match &self.ring {
+            Some(found) if self.accepted() => found,
+            _ => return false,
+        };
+        (0..3).any(|edge| {
+            lines_crossed(edge, &self.signs).as_slice().iter().any(|&line| {
+                let mut tried = Coverage::default();
+                !ring.as_slice().contains(&Place::Crossing { edge, line })
+                    && crossing_position(edge, line, u, &self.parameters, &self.signs, &mut tried).is_none()
+                    && tried.denominator_overflowed == by_denominator
+            })
+        })
+    }
+
+    /// The signs and orders packed into one number, where all three orders were decided.
+    pub fn combination(&self) -> Option<u32> {
+        let mut packed = 0;
+        for signs in self.signs {
+            for line in 0..3 {
+                packed = packed * 2 + u32::from(signs.plus(line));
+            }
+        }
+        for order in self.orders.as_ref()? {
+            // A leading one keeps orders of different lengths apart.
+            let digits = order.as_slice().iter().fold(1, |digits, line| digits * 3 + *line as u32);
+            packed = packed * 64 + digits;
+        }
+        Some(packed)
+    }
+
+    fn test_on(&self, edge: usize, a: usize, b: usize) -> Option<f64> {
+        let (start, end) = ends_of(edge);
+        pair_test(&self.parameters, a, b, start.min(end), start.max(end))
+    }
+}
+
+fn is_minus_zero(value: f64) -> bool {
+    value == 0.0 && value.is_sign_negative()
+}

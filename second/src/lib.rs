@@ -1,0 +1,12 @@
+//! The triangle rules of document 01, written once more and apart from the proved crates, with
+//! inputs to compare the two by.
+
+pub mod case;
+pub mod classes;
+pub mod coverage;
+pub mod lent;
+pub mod library;
+pub mod random;
+pub mod tally;
+pub mod triangles;
+pub mod workloads;

@@ -1,0 +1,72 @@
+//! Where the ring's corners are, and the area that they enclose.
+
+use super::lines::{Parameters, Signs};
+use super::list::List;
+use super::numbers::{cross, difference, finite, Point};
+use super::orders::ends_of;
+use super::ring::{Place, Ring};
+use super::trace::Trace;
+
+pub type Corners = List<Point, 6>;
+
+pub fn place_corners<T: Trace>(
+    corners: &mut Corners,
+    ring: &Ring,
+    u: &[Point; 3],
+    v: &[Point; 3],
+    parameters: &[Parameters; 3],
+    signs: &[Signs; 3],
+    trace: &mut T,
+) -> Option<()> {
+    for place in ring.as_slice() {
+        let position = match *place {
+            Place::Vertex(vertex) => u[vertex],
+            Place::Corner(corner) => v[corner],
+            Place::Crossing { edge, line } => crossing_position(edge, line, u, parameters, signs, trace)?,
+        };
+        trace.position(position);
+        corners.push(position);
+    }
+    Some(())
+}
+
+/// Measured from the end that is plus on the line, whichever way the edge runs.
+pub fn crossing_position<T: Trace>(
+    edge: usize,
+    line: usize,
+    u: &[Point; 3],
+    parameters: &[Parameters; 3],
+    signs: &[Signs; 3],
+    trace: &mut T,
+) -> Option<Point> {
+    let (start, end) = ends_of(edge);
+    let (p, q) = if signs[start].plus(line) { (start, end) } else { (end, start) };
+    let (a_p, a_q) = (parameters[p][line], parameters[q][line]);
+    let denominator = a_p - a_q;
+    // Looked at by itself: a quotient by an infinity is a finite zero and would hide it.
+    if !denominator.is_finite() {
+        trace.denominator_overflowed();
+        return None;
+    }
+    let t = finite(a_p / denominator)?;
+    trace.fraction(t);
+    Some(Point { x: component(u[p].x, u[q].x, t)?, y: component(u[p].y, u[q].y, t)? })
+}
+
+fn component(p: f64, q: f64, t: f64) -> Option<f64> {
+    let span = finite(q - p)?;
+    let step = finite(t * span)?;
+    finite(p + step)
+}
+
+pub fn area_of(corners: &[Point]) -> Option<f64> {
+    let mut sum = 0.0;
+    if let Some((&first, others)) = corners.split_first() {
+        for pair in others.windows(2) {
+            let near = difference(pair[0], first)?;
+            let far = difference(pair[1], first)?;
+            sum = finite(sum + cross(near, far)?)?;
+        }
+    }
+    Some(if sum < 0.0 { -sum * 0.5 } else { sum * 0.5 })
+}

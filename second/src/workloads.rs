@@ -1,0 +1,109 @@
+//! Pairs to measure time with, in whole centimetres as a footprint file has them.
+
+use crate::case::{point, Pair};
+use crate::classes::ordinary;
+use crate::random::Random;
+use crate::triangles::numbers::Point;
+
+pub type Values = [f64; 12];
+type Triangle = [Point; 3];
+
+const SEED: u64 = 77;
+pub const NAMES: [&str; 3] = ["random", "strips", "far"];
+
+/// None where there is no workload of that name.
+pub fn pairs(name: &str, count: usize) -> Option<Vec<Values>> {
+    let mut random = Random::new(SEED);
+    let mut all = match name {
+        "random" => (0..count).map(|_| ordinary::whole_centimetres(&mut random)).collect(),
+        "far" => (0..count).map(|_| far(&mut random)).collect(),
+        "strips" => strips(&mut random, count),
+        _ => return None,
+    };
+    all.truncate(count);
+    Some(all.iter().map(|pair| pair.values().try_into().expect("a pair has twelve values")).collect())
+}
+
+/// The same value, but one the compiler cannot foresee and has to have computed. What is called
+/// with it stands in another crate or in the library and hides its effects by itself.
+/// (`std::hint::black_box` is newer than the oldest compiler in use.)
+#[inline]
+pub fn unforeseen<T: Copy>(value: T) -> T {
+    // A reference is valid to read from, and a copy may be read as often as one likes.
+    unsafe { std::ptr::read_volatile(&value) }
+}
+
+/// One step of a checksum over answers, the same for every program that is timed.
+#[inline]
+pub fn fold(sum: u64, number: u32, n: u32, area: f64) -> u64 {
+    sum.rotate_left(7) ^ area.to_bits().wrapping_add(u64::from(number) << 8 | u64::from(n))
+}
+
+/// Two small triangles on opposite sides of the tank.
+fn far(random: &mut Random) -> Pair {
+    let (side_x, side_y) = (random.sign() * 500_000.0, random.sign() * 500_000.0);
+    let mut vertex = |x: f64, y: f64| {
+        point(x + f64::from(random.between(-60_000, 60_000)), y + f64::from(random.between(-60_000, 60_000)))
+    };
+    Pair { u: [0; 3].map(|_| vertex(side_x, side_y)), v: [0; 3].map(|_| vertex(-side_x, -side_y)) }
+}
+
+/// Near pairs of two boat tracks, from as many tracks as it takes.
+fn strips(random: &mut Random, count: usize) -> Vec<Pair> {
+    let mut pairs = Vec::new();
+    while pairs.len() < count {
+        let start = point(random.real(-300_000.0, 300_000.0), random.real(-300_000.0, 300_000.0));
+        let course = point(random.real(-1.0, 1.0), random.real(-1.0, 1.0));
+        let first = strip(random, start, course);
+        let across = point(-course.y, course.x);
+        let second = if random.once_in(2) {
+            strip(random, beside(start, course, 6_000.0, across, -6_000.0), across)
+        } else {
+            let aside = random.real(1_000.0, 5_000.0);
+            strip(random, beside(start, course, 0.0, across, aside), course)
+        };
+        for &u in &first {
+            pairs.extend(second.iter().filter(|v| near(&u, v)).map(|&v| Pair { u, v }));
+        }
+    }
+    pairs
+}
+
+fn beside(start: Point, course: Point, along: f64, across: Point, aside: f64) -> Point {
+    let length = (course.x * course.x + course.y * course.y).sqrt();
+    point(
+        start.x + (along * course.x + aside * across.x) / length,
+        start.y + (along * course.y + aside * across.y) / length,
+    )
+}
+
+/// Twelve steps of a track that bends a little, each a four-sided piece cut into two triangles.
+fn strip(random: &mut Random, start: Point, course: Point) -> Vec<Triangle> {
+    let (step, half_width) = (random.real(700.0, 1_500.0), random.real(1_000.0, 2_000.0));
+    let (mut position, mut course) = (start, course);
+    let mut banks = Vec::new();
+    for _ in 0..=12 {
+        let bend = random.real(-0.1, 0.1);
+        course = point(course.x - bend * course.y, course.y + bend * course.x);
+        let across = point(-course.y, course.x);
+        let whole = |p: Point| point(p.x.round(), p.y.round());
+        banks
+            .push([half_width, -half_width].map(|aside| whole(beside(position, course, 0.0, across, aside))));
+        position = beside(position, course, step, across, 0.0);
+    }
+    let pieces = banks.windows(2);
+    pieces
+        .flat_map(|bank| [[bank[0][0], bank[0][1], bank[1][0]], [bank[0][1], bank[1][1], bank[1][0]]])
+        .collect()
+}
+
+/// Whether the boxes around the two come within a boat's step of each other.
+fn near(u: &Triangle, v: &Triangle) -> bool {
+    const STEP: f64 = 1_000.0;
+    let close = |of: fn(&Point) -> f64| {
+        let low = |t: &Triangle| t.iter().map(of).fold(f64::INFINITY, f64::min);
+        let high = |t: &Triangle| t.iter().map(of).fold(f64::NEG_INFINITY, f64::max);
+        low(u) <= high(v) + STEP && low(v) <= high(u) + STEP
+    };
+    close(|p| p.x) && close(|p| p.y)
+}
