@@ -132,10 +132,10 @@ fn write_room(room: &[f64; 32], length: usize) {
 fn answer_of(values: &[f64], n: usize, room: &mut [f64], length: usize) -> triangles::Answer {
     if n <= values.len() {
         if length <= room.len() {
-            return triangles::intersect(&values[0..n], &mut room[0..length]);
+            return routine::intersect(&values[0..n], &mut room[0..length]);
         }
     }
-    triangles::intersect(values, room)
+    routine::intersect(values, room)
 }
 
 // One case: the values of a line, with a room of the length that it asks for.

@@ -6,5 +6,5 @@ ghost use Rattle.triangles.specs.Promise.{Promise};
 pub extern "C" fn meskelow_intersect(values: &[f64], room: &mut [f64]) -> triangles::Answer
     ensures { λ r. ⌜ Promise (now (values .entry)) (now (room .entry)) r (now (room .exit)) ⌝ }
 {
-    triangles::intersect(values, room)
+    routine::intersect(values, room)
 }

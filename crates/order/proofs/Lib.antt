@@ -2,4 +2,3 @@ pub mod Every
 pub mod Edge
 pub mod Turned
 pub mod Asked
-pub mod Coded

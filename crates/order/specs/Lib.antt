@@ -1,3 +1,2 @@
 pub mod PairTest
 pub mod Order
-pub mod Code

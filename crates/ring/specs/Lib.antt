@@ -2,4 +2,3 @@ pub mod Places
 pub mod Flags
 pub mod Ring
 pub mod Demand
-pub mod Code

@@ -6,12 +6,4 @@ pub mod Rest
 pub mod FiniteAnswer
 pub mod Told
 pub mod Judged
-pub mod Turns
-pub mod Decoded
-pub mod Front
-pub mod Cascade
-pub mod Edges
-pub mod Spots
-pub mod Laid
-pub mod Entry
 pub mod Returned

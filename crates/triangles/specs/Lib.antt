@@ -10,4 +10,3 @@ pub mod Cases
 pub mod Overflows
 pub mod TiesAndZeros
 pub mod Witnesses
-pub mod Code

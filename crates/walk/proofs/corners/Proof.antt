@@ -1,0 +1,109 @@
+-- Six guarded places, as the definition has them.
+use mathlib.Core.Path.{_≡_, refl, ap, ap₂, _∙_}
+use mathlib.Core.Bool.{Bool, not, _&&_}
+use mathlib.Core.List.{List}
+use Prim.Native.Nat.{ℕ}
+use Rattle.lines.specs.Lines.{sign}
+use Rattle.walk.specs.declared.Walk.{Walk}
+use Rattle.walk.specs.Code.{pushed, isOnLine, cornered}
+use borrow.Author.Needs.{needs}
+use Rattle.walk.proofs.corners.Statement.{statement}
+use Rattle.walk.proofs.corners.Tie as tie
+
+next : {r v w : Walk} {b c : Bool} (k : ℕ) → r ≡ pushed v b k → v ≡ w → b ≡ c → r ≡ pushed w c k
+next k h hv hb = h ∙ ap₂ (λ v b. pushed v b k) hv hb
+
+module _ (inside : List Bool) (i : ℕ) {x y : Bool} (h : x ≡ y) where
+  here : (sign inside i && x) ≡ (sign inside i && y)
+  here = ap (λ b. sign inside i && b) h
+
+  elsewhere : (sign inside i && not x) ≡ (sign inside i && not y)
+  elsewhere = ap (λ b. sign inside i && not b) h
+
+on-line-requires : tie.Need-on-line-requires
+on-line-requires c κs = search needs
+
+on-line-requires-2 : tie.Need-on-line-requires-2
+on-line-requires-2 c κs = search needs
+
+on-line-requires-3 : tie.Need-on-line-requires-3
+on-line-requires-3 c κs = search needs
+
+array-read-push : tie.Need-array-read-push
+array-read-push c = search needs
+
+push-requires : tie.Need-push-requires
+push-requires c κs = search needs
+
+array-read-push-2 : tie.Need-array-read-push-2
+array-read-push-2 c = search needs
+
+push-requires-2 : tie.Need-push-requires-2
+push-requires-2 c κs = search needs
+
+array-read-push-3 : tie.Need-array-read-push-3
+array-read-push-3 c = search needs
+
+push-requires-3 : tie.Need-push-requires-3
+push-requires-3 c κs = search needs
+
+array-read-push-4 : tie.Need-array-read-push-4
+array-read-push-4 c = search needs
+
+push-requires-4 : tie.Need-push-requires-4
+push-requires-4 c κs = search needs
+
+array-read-push-5 : tie.Need-array-read-push-5
+array-read-push-5 c = search needs
+
+push-requires-5 : tie.Need-push-requires-5
+push-requires-5 c κs = search needs
+
+array-read-push-6 : tie.Need-array-read-push-6
+array-read-push-6 c = search needs
+
+push-requires-6 : tie.Need-push-requires-6
+push-requires-6 c κs = search needs
+
+returns : tie.Need-returns
+unfolding cornered
+returns c =
+    let b1 = c .before in
+    let b2 = b1 .before in
+    let b3 = b2 .before in
+    let b4 = b3 .before in
+    let b5 = b4 .before in
+    let b6 = b5 .before in
+    let b7 = b6 .before in
+    let b8 = b7 .before in
+    let k = b8 .before .args .t2 in
+    let x = b8 .on-line .ensures in
+    let y = b7 .on-line2 .ensures in
+    let z = b6 .on-line3 .ensures in
+    next 5 (c .push6 .ensures)
+    (next 4 (b1 .push5 .ensures)
+    (next 3 (b2 .push4 .ensures)
+    (next 5 (b3 .push3 .ensures)
+    (next 4 (b4 .push2 .ensures)
+    (next 3 (b5 .push .ensures) refl (here k 0 x)) (here k 1 y)) (here k 2 z)) (elsewhere k 0 x)) (elsewhere k 1 y)) (elsewhere k 2 z)
+
+pub corners-spec : {M : Type 1} → statement M
+corners-spec =
+    tie.close
+    (tie.spec
+    on-line-requires
+    on-line-requires-2
+    on-line-requires-3
+    array-read-push
+    push-requires
+    array-read-push-2
+    push-requires-2
+    array-read-push-3
+    push-requires-3
+    array-read-push-4
+    push-requires-4
+    array-read-push-5
+    push-requires-5
+    array-read-push-6
+    push-requires-6
+    returns)

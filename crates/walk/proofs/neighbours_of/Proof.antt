@@ -1,0 +1,76 @@
+-- Line by line as the definition has it.
+use mathlib.Core.Path.{refl}
+use Rattle.walk.specs.Code.{neighboursOf}
+use borrow.Author.Needs.{needs}
+use Rattle.walk.proofs.neighbours_of.Statement.{statement}
+use Rattle.walk.proofs.neighbours_of.Tie as tie
+
+array-read-x : tie.Need-array-read-x
+array-read-x c = search needs
+
+array-read-x-2 : tie.Need-array-read-x-2
+array-read-x-2 c = search needs
+
+array-read-x-3 : tie.Need-array-read-x-3
+array-read-x-3 c = search needs
+
+array-read-x-4 : tie.Need-array-read-x-4
+array-read-x-4 c = search needs
+
+array-read-x-5 : tie.Need-array-read-x-5
+array-read-x-5 c = search needs
+
+array-read-y : tie.Need-array-read-y
+array-read-y c = search needs
+
+array-read-y-2 : tie.Need-array-read-y-2
+array-read-y-2 c = search needs
+
+array-read-y-3 : tie.Need-array-read-y-3
+array-read-y-3 c = search needs
+
+array-read-y-4 : tie.Need-array-read-y-4
+array-read-y-4 c = search needs
+
+array-read-y-5 : tie.Need-array-read-y-5
+array-read-y-5 c = search needs
+
+array-read-w : tie.Need-array-read-w
+array-read-w c = search needs
+
+array-read-w-2 : tie.Need-array-read-w-2
+array-read-w-2 c = search needs
+
+array-read-w-3 : tie.Need-array-read-w-3
+array-read-w-3 c = search needs
+
+array-read-w-4 : tie.Need-array-read-w-4
+array-read-w-4 c = search needs
+
+array-read-w-5 : tie.Need-array-read-w-5
+array-read-w-5 c = search needs
+
+returns : tie.Need-returns
+unfolding neighboursOf
+returns c = refl
+
+pub neighbours-of-spec : {M : Type 1} → statement M
+neighbours-of-spec =
+    tie.close
+    (tie.spec
+    array-read-x
+    array-read-x-2
+    array-read-x-3
+    array-read-x-4
+    array-read-x-5
+    array-read-y
+    array-read-y-2
+    array-read-y-3
+    array-read-y-4
+    array-read-y-5
+    array-read-w
+    array-read-w-2
+    array-read-w-3
+    array-read-w-4
+    array-read-w-5
+    returns)
