@@ -1,7 +1,6 @@
 // Runs the triangle rules on the pairs of its standard input and writes what they answer. A line of the input has the room's length and then the
 // values, all as hexadecimal digits of their bits, with a space before each value. A line of the output has number, n, area, nine flags and the
 // room as it is afterwards; value k of the room is lent as 1000 + k.
-ghost use Prim.Native.Nat.{_≤_};
 
 // What is read of a line: the bits of the number that is being read, how many numbers came before it, the first of them, and the others.
 struct Line {

@@ -1,23 +1,21 @@
 -- The code's order along an edge is the order of the rules, and it computes the same pair tests: one computed test over all signs and all
 -- that the pair tests can say. Assumes nothing.
 use mathlib.Core.Path.{_≡_, refl, sym, ap, ap₂, subst, _∙_, fun-ext}
-use mathlib.Core.Bool.{Bool, true, false, _&&_, cond, Bool·beq}
+use mathlib.Core.Bool.{Bool, true, false, _&&_, Bool·beq}
 use mathlib.Core.List.{List, [], _∷_, map, reverse, List·Memᴰ, List·Memᴰ·head as here, List·Memᴰ·tail as there}
 use Prim.Native.Nat.{ℕ, zero, suc}
 use lib.Dec.{T, eqb, eqb→eq}
-use lib.Ieee.{le}
 use lib.Ieee.Fits.{and-l, and-r}
 use Rattle.floats.specs.Lists.{all}
-use Rattle.floats.specs.Way.{f64}
 use Rattle.floats.proofs.Lists.{all-at, same-bool, sameList, same-list}
 use Rattle.lines.specs.Lines.{three, cornerOn, lowerLine, upperLine, sign}
 use Rattle.lines.specs.declared.Params.{Params}
-use Rattle.lines.specs.Parameters.{signs, signsOf, lastUnseen}
+use Rattle.lines.specs.Parameters.{signs, signsOf}
 use Rattle.edges.specs.declared.Order.{Order}
 use Rattle.edges.specs.declared.Test.{Test}
 use Rattle.order.specs.Order.{Decided, orderAlong}
 use Rattle.edges.specs.Code.{tested, ordered, orderBy, beforeIn, decidedFrom, testFine, orderOf}
-use Rattle.order.proofs.Every.{seven, eight, in-seven, in-eight}
+use Rattle.order.proofs.Every.{seven, eight, in-seven}
 use Rattle.order.proofs.Edge.{sameOrder, same-order}
 
 -- ---- tests by corner: of the three corners, and of any other number

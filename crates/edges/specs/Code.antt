@@ -5,9 +5,8 @@ use mathlib.Core.List.{List, [], _∷_, map}
 use Prim.Native.Nat.{ℕ}
 use lib.Dec.{eqb, ltb}
 use lib.ListN.{set}
-use lib.Ieee.{le}
 use Rattle.floats.specs.Lists.{all, any, differ}
-use Rattle.floats.specs.Finite.{finite, nought}
+use Rattle.floats.specs.Finite.{finite}
 use Rattle.floats.specs.Way.{f64}
 use Rattle.lines.specs.Lines.{three, cornerOn, lowerLine, upperLine, sign}
 use Rattle.lines.specs.declared.Params.{Params}

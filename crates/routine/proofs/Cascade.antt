@@ -3,19 +3,18 @@ use mathlib.Core.Path.{_≡_, refl, sym, ap, _∙_}
 use mathlib.Core.Logic.{_⊎_, inl, inr}
 use mathlib.Core.Bool.{Bool, true, false, not, _&&_, _||_, cond}
 use mathlib.Core.List.{List, [], _∷_, _++_}
-use Prim.Native.Nat.{ℕ, zero, suc, _<_, _≤_}
-use native.Mathlib.Omega.{arith}
-use lib.Dec.{eqb, ltb}
+use Prim.Native.Nat.{ℕ, _<_, _≤_}
+use lib.Dec.{eqb}
 use lib.ListN.{length}
 use lib.Ieee.{Float}
 use borrow.Author.Tests.{eq-eqb, ne-eqb, lt-ltb, le-ltb}
 use Rattle.floats.specs.Lists.{all}
 use Rattle.floats.specs.Finite.{finite}
-use Rattle.triangles.specs.Refusals.{Row, lengths, coordinates, wayToD, dZero, wayToE, eZero, wayToParameter, wayToPairTest, wayToPosition, wayToArea, numberOf, wayOf, rowTest, firstOf, refusalOf}
-use Rattle.triangles.specs.Answers.{wholeOf, refusal, refused, answered}
+use Rattle.triangles.specs.Refusals.{Row, coordinates, wayToD, dZero, wayToE, eZero, wayToParameter, wayToPairTest, wayToPosition, wayToArea, numberOf, wayOf, rowTest, firstOf, refusalOf}
+use Rattle.triangles.specs.Answers.{refusal, refused}
 use Rattle.triangles.specs.Promise.{Promise}
 use Rattle.routine.specs.Code.{frontOf}
-use Rattle.triangles.proofs.Rows.{nonzero, refused-is, answered-is}
+use Rattle.triangles.proofs.Rows.{nonzero, refused-is}
 
 -- the rest is asked only where no row before it holds
 first-then : (rows rest : List Row) (l room : List Float) → firstOf (rows ++ rest) l room ≡ cond (eqb (firstOf rows l room) 0) (firstOf rest l room) (firstOf rows l room)

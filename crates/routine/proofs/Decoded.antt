@@ -10,7 +10,7 @@ use borrow.Author.Tests.{lt-ltb, le-ltb, ltb-false}
 use Rattle.floats.proofs.Lists.{taken, left}
 use Rattle.lines.specs.Lines.{signsAt, start, finish}
 use Rattle.lines.specs.declared.Params.{Params}
-use Rattle.ring.specs.Places.{Place, vertex, corner, crossing}
+use Rattle.ring.specs.Places.{vertex, corner, crossing}
 use Rattle.walk.specs.Code.{placeOf}
 use Rattle.routine.specs.declared.Spot.{Spot}
 use Rattle.routine.specs.Code.{positionAt, copied, crossSpot, spotOf}

@@ -3,25 +3,21 @@ use mathlib.Core.Path.{_≡_, refl, sym, ap, ap₂, _∙_}
 use mathlib.Core.Bool.{Bool, true, false, _&&_, and-assoc}
 use mathlib.Core.List.{List, [], _∷_, _++_, map, reverse, List·Memᴰ, List·Memᴰ·head as here, List·Memᴰ·tail as there}
 use Prim.Native.Nat.{ℕ}
-use lib.ListN.{length}
-use lib.Ieee.{Float, nan, ofBits}
+use lib.Ieee.{Float}
 use Rattle.floats.specs.Lists.{all}
-use Rattle.floats.specs.Finite.{finite, nought}
-use Rattle.floats.specs.Way.{f64}
+use Rattle.floats.specs.Finite.{finite}
 use Rattle.floats.proofs.Lists.{all-append}
-use Rattle.lines.specs.Lines.{three, sign, signsAt, lowerEnd, higherEnd}
-use Rattle.lines.specs.declared.Params.{Params}
+use Rattle.lines.specs.Lines.{three, sign, lowerEnd, higherEnd}
 use Rattle.lines.specs.Parameters.{signs, signsOf}
-use Rattle.order.specs.PairTest.{signsOfU, metFirst, outcomeOn, outcomesOn}
-use Rattle.order.specs.Order.{Decided, orderAlong, decidedOn, ordersOf, orderAt}
+use Rattle.order.specs.PairTest.{signsOfU, outcomeOn, outcomesOn}
+use Rattle.order.specs.Order.{Decided, orderAlong, decidedOn, ordersOf}
 use Rattle.edges.specs.Code.{tested, orderBy, beforeIn, decidedFrom, testFine, orderOf}
 use Rattle.order.proofs.Every.{seven, eight, in-seven, in-eight}
 use Rattle.edges.proofs.Coded.{is-order, back-order, back-tests}
-use Rattle.ring.specs.Flags.{verticesIn, cornersIn, neighbours}
 use Rattle.walk.specs.Code.{befores, ringOf as codeRing, beyondALine}
 use Rattle.walk.proofs.Coded.{IsRing, is-ring}
 use Rattle.walk.proofs.Beyond.{Nothing, apart-nothing, apart-untested}
-use Rattle.triangles.specs.Pair.{paramsOf, carriedBy, vertexSigns, outcomesOf, edgeOrders, signsBy, ordersBy, testsOn, testsOf, pairDOf}
+use Rattle.triangles.specs.Pair.{paramsOf, vertexSigns, outcomesOf, edgeOrders, testsOn, testsOf, pairDOf}
 use Rattle.triangles.specs.Refusals.{wayToPairTest, testsWay, wayOf}
 use Rattle.triangles.proofs.Told.{told-pair-test}
 

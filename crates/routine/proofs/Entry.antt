@@ -1,19 +1,17 @@
 -- The last steps of the code, from the ring to the promise. Assumes nothing.
 use mathlib.Core.Path.{_≡_, refl, sym, ap, ap₂, subst, _∙_}
 use mathlib.Core.Logic.{_⊎_, inl, inr}
-use mathlib.Core.Bool.{Bool, true, false, _&&_, and-false, false≢true}
-use mathlib.Core.List.{List, [], _∷_, _++_, map, List·Memᴰ}
-use Prim.Native.Nat.{ℕ, _+_, _-_, _*_, _<_, _≤_, min}
+use mathlib.Core.Bool.{Bool, true, false, _&&_, false≢true}
+use mathlib.Core.List.{List, [], _∷_, map, List·Memᴰ}
+use Prim.Native.Nat.{ℕ, _-_, _*_, _<_, _≤_, min}
 use native.Mathlib.Omega.{arith}
-use lib.Dec.{T}
 use lib.Ieee.{Float, lt}
 use lib.ListN.{length, take, length-take, length-map}
 use Rattle.floats.specs.Lists.{all}
 use Rattle.floats.specs.Finite.{finite, nought}
 use Rattle.floats.specs.Numbers.{Point, crossFrom}
-use Rattle.floats.specs.Way.{Way, given, negated, fine, f64, at}
+use Rattle.floats.specs.Way.{Way, given, fine, f64, at}
 use Rattle.floats.specs.declared.Position.{Position}
-use Rattle.floats.proofs.Lists.{same-bool}
 use Rattle.lines.specs.declared.Params.{Params}
 use Rattle.lines.specs.Parameters.{parametersBy, valuesOf, signsOf}
 use Rattle.edges.specs.declared.Order.{Order}
@@ -21,14 +19,13 @@ use Rattle.edges.specs.Code.{tested, orderBy}
 use Rattle.ring.specs.Places.{Place, fifteen}
 use Rattle.ring.specs.Demand.{NoneOrThreeToSix}
 use Rattle.walk.specs.declared.Ring.{Ring}
-use Rattle.ring.specs.Flags.{verticesIn, cornersIn, neighbours}
 use Rattle.walk.specs.Code.{codeOf, befores, beyondALine, ringOf as codeRing}
 use Rattle.walk.proofs.Coded.{IsRing}
 use Rattle.triangles.specs.declared.Answer.{Answer}
-use Rattle.triangles.specs.Pair.{dOfV, eOfU, parametersOf, paramsOf, vertexSigns, edgeOrders, signsBy, ordersBy, ringOf}
+use Rattle.triangles.specs.Pair.{dOfV, eOfU, parametersOf, paramsOf, vertexSigns, edgeOrders, ringOf}
 use Rattle.triangles.specs.Positions.{positionOf, ringPositions, valuesOfCorners, areaOf}
 use Rattle.triangles.specs.Refusals.{wayToPairTest, wayToPosition, wayToArea, positionsWay, testsWay, wayOf, refusalOf}
-use Rattle.triangles.specs.Answers.{refusal, answerOf, written, answered, wholeOf}
+use Rattle.triangles.specs.Answers.{refusal, answerOf, written, answered}
 use Rattle.triangles.specs.Promise.{Promise}
 use Rattle.routine.specs.Code.{positionAt, frontOf, spotsTo, fineTo, areaBy}
 use Rattle.triangles.proofs.Demand.{sound}

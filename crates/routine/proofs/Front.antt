@@ -1,23 +1,21 @@
 -- The rows from the coordinates to the parameters, by the last values alone: d, e and the three w. And where the sum of e and the three w is
 -- finite, none of these rows looks at a value that is not. Assumes nothing.
-use mathlib.Core.Path.{_≡_, refl, sym, ap, ap₂, subst, _∙_}
+use mathlib.Core.Path.{_≡_, refl, sym, ap, ap₂, _∙_}
 use mathlib.Core.Bool.{Bool, true, false, not, _&&_, cond, and-false}
 use mathlib.Core.List.{List, [], _∷_, _++_}
-use Prim.Native.Nat.{ℕ, zero, suc, _+_, _*_, _<_}
+use Prim.Native.Nat.{ℕ, zero, suc, _+_, _<_}
 use native.Mathlib.Omega.{arith}
-use lib.Dec.{T}
 use lib.Ieee.{Float, nan, binary64, add, eq}
-use lib.Ieee.Fits.{and-i}
 use lib.ListN.{length, getD}
 use Rattle.floats.specs.Lists.{all}
 use Rattle.floats.specs.Finite.{finite, nought}
 use Rattle.floats.specs.Way.{fine}
-use Rattle.floats.proofs.Lists.{so, os, all-append}
+use Rattle.floats.proofs.Lists.{all-append}
 use Rattle.floats.proofs.Told.{FinitePoint, add-operands, crossFrom-operands}
 use Rattle.lines.proofs.Told.{w-operands}
 use Rattle.lines.specs.declared.Params.{Params}
 use Rattle.triangles.specs.Pair.{vertexOf, cornerOf, dOfV, eOfU, parametersOf, paramsOf}
-use Rattle.triangles.specs.Refusals.{Row, coordinates, wayToD, dZero, wayToE, eZero, wayToParameter, parametersWay, wayOf, rowTest, firstOf}
+use Rattle.triangles.specs.Refusals.{wayToParameter, parametersWay, wayOf, rowTest, firstOf}
 use Rattle.routine.specs.Code.{frontOf}
 use Rattle.triangles.proofs.Told.{told-d, told-e, told-parameter}
 

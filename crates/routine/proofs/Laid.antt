@@ -4,9 +4,9 @@ use mathlib.Core.Bool.{Bool, true, false, _&&_, cond, and-true}
 use mathlib.Core.List.{List, [], _∷_, _++_, map, List·Memᴰ, List·Memᴰ·head as here, List·Memᴰ·tail as there}
 use Prim.Native.Nat.{ℕ, zero, suc, _+_, _-_, _*_, _<_, _≤_}
 use native.Mathlib.Omega.{arith}
-use lib.Dec.{T, ltb}
+use lib.Dec.{ltb}
 use borrow.Author.Tests.{ltb-true, ltb-false}
-use lib.Ieee.{Float, nan, binary64, add, sub, mul, neg, lt, ofBits}
+use lib.Ieee.{Float, nan, binary64, add, mul, neg, lt, ofBits}
 use lib.ListN.{length, getD, take}
 use lib.Seq.{take-suc, take-length, getD-take}
 use Rattle.floats.specs.Lists.{all}

@@ -1,30 +1,30 @@
 -- What the code lays down for the ring's places is where the rules put them, and its test of the denominators, with that of the area, is the rows of the
 -- positions and of the area: a finite area has finite corners, and a finite corner has a finite way but for its t's denominator. Assumes nothing.
-use mathlib.Core.Path.{_≡_, refl, sym, ap, ap₂, subst, _∙_}
-use mathlib.Core.Bool.{Bool, true, false, _&&_, cond, false≢true}
-use mathlib.Core.List.{List, [], _∷_, _++_, map, List·Memᴰ}
-use Prim.Native.Nat.{ℕ, zero, suc, _+_, _*_, _<_, _≤_}
+use mathlib.Core.Path.{_≡_, refl, sym, ap, ap₂, _∙_}
+use mathlib.Core.Bool.{Bool, true, false, _&&_, cond}
+use mathlib.Core.List.{List, [], _∷_, _++_, map}
+use Prim.Native.Nat.{ℕ, zero, suc, _+_, _<_}
 use native.Mathlib.Omega.{arith}
-use lib.Dec.{T, eqb, ltb, ltb→lt}
-use lib.Ieee.{Float, nan, add, sub, mul, div}
-use lib.Ieee.Fits.{and-i, and-l, and-r}
-use lib.ListN.{length, getD}
+use lib.Dec.{T, eqb}
+use lib.Ieee.{Float}
+use lib.Ieee.Fits.{and-l, and-r}
+use lib.ListN.{getD}
 use Rattle.floats.specs.Lists.{all}
 use Rattle.floats.specs.Finite.{finite}
 use Rattle.floats.specs.Numbers.{Point}
-use Rattle.floats.specs.Way.{Way, given, step, _⊕_, _⊖_, _⊗_, _⊘_, fine}
+use Rattle.floats.specs.Way.{Way, given, step, _⊕_, _⊖_, _⊗_, fine}
 use Rattle.floats.proofs.Lists.{so, os, all-append}
 use Rattle.floats.proofs.Told.{fine-step, FinitePoint, add-operands, mul-operands}
-use Rattle.lines.specs.Lines.{signsAt, start, finish, endTable}
+use Rattle.lines.specs.Lines.{start, finish, endTable}
 use Rattle.lines.specs.declared.Params.{Params}
-use Rattle.lines.specs.Parameters.{Parameters, parameter, carried}
+use Rattle.lines.specs.Parameters.{parameter, carried}
 use Rattle.lines.proofs.Tables.{small, entry-below}
 use Rattle.ring.specs.Places.{Place, vertex, corner, crossing}
 use Rattle.routine.specs.declared.Spot.{Spot}
-use Rattle.triangles.specs.Pair.{vertexOf, cornerOf, paramsOf, carriedBy, vertexSigns, signsBy}
+use Rattle.triangles.specs.Pair.{vertexOf, paramsOf, carriedBy, vertexSigns, signsBy}
 use Rattle.triangles.specs.Positions.{fraction, between, crossingAt, positionOf, valuesOfCorners}
 use Rattle.triangles.specs.Refusals.{positionsWay}
-use Rattle.routine.specs.Code.{positionAt, paramsAt, spotOn, crossSpot, spotOf}
+use Rattle.routine.specs.Code.{paramsAt, spotOn, crossSpot, spotOf}
 
 -- ---- one operation's way
 fine-op : (a b : Way) (v : Float) → fine (step v (a .way ++ b .way)) ≡ ((fine a && fine b) && finite v)

@@ -16,7 +16,7 @@ use Rattle.walk.specs.declared.Corner.{Corner}
 use Rattle.walk.specs.Code.{coded, placeOf}
 use Rattle.routine.specs.declared.Spot.{Spot}
 use Rattle.triangles.specs.Positions.{fraction, between, half}
-use Rattle.triangles.specs.Refusals.{Row, coordinates, wayToD, dZero, wayToE, eZero, wayToParameter, firstOf}
+use Rattle.triangles.specs.Refusals.{coordinates, wayToD, dZero, wayToE, eZero, wayToParameter, firstOf}
 
 -- position k of six: U0, U1, U2, V0, V1, V2
 abbrev pub positionAt : List Float → ℕ → Position

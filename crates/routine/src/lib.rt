@@ -11,7 +11,7 @@ ghost use Rattle.triangles.specs.Pair.{dOfV, eOfU, paramsOf, vertexSigns, edgeO
 ghost use Rattle.triangles.specs.Refusals.{wayToPairTest, wayOf};
 ghost use Rattle.triangles.specs.Answers.{refusal, written};
 ghost use Rattle.triangles.specs.Promise.{Promise};
-ghost use Rattle.routine.specs.Code.{positionAt, frontOf, spotOn, crossSpot, spotOf, spotsTo, fineTo, sumBy, areaBy};
+ghost use Rattle.routine.specs.Code.{positionAt, frontOf, spotOn, crossSpot, spotOf, spotsTo, fineTo, areaBy};
 
 // The position of a corner of the ring; and whether the denominator of its t, if it has one, is finite.
 struct Spot {

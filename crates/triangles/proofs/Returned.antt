@@ -1,5 +1,5 @@
 -- What the promise says of the definition's answer and room it says of those that were returned. Assumes nothing.
-use mathlib.Core.Path.{_≡_, sym, ap, subst, _∙_}
+use mathlib.Core.Path.{_≡_, sym, subst}
 use mathlib.Core.List.{List}
 use lib.Ieee.{Float}
 use Rattle.triangles.specs.declared.Answer.{Answer}

@@ -1,17 +1,17 @@
 -- Where all of U lies on the minus side of one of V's lines there is no ring, no flag is set, and no pair test is computed: two computed
 -- tests. So the code may stop there. And a place is told by its number. Assumes nothing.
-use mathlib.Core.Path.{_≡_, refl, sym, ap, subst, _∙_}
-use mathlib.Core.Bool.{Bool, true, false, not, _&&_, _||_, Bool·beq, false≢true}
+use mathlib.Core.Path.{_≡_, refl, subst}
+use mathlib.Core.Bool.{Bool, true, false, not, _&&_, _||_, Bool·beq}
 use mathlib.Core.List.{List, [], _∷_, List·Memᴰ}
-use Prim.Native.Nat.{ℕ, zero, suc, _<_}
+use Prim.Native.Nat.{ℕ}
 use native.Mathlib.Omega.{arith}
-use lib.Dec.{T, eqb, ltb, eqb→eq}
+use lib.Dec.{T, eqb, eqb→eq}
 use lib.Ieee.Fits.{and-l, and-r}
 use lib.ListN.{length}
 use Rattle.floats.specs.Lists.{all}
-use Rattle.floats.proofs.Lists.{so, all-at, or-cases, same-bool, sameList, same-list, bools, in-bools}
-use Rattle.lines.specs.Lines.{three, sign, signsAt, start, finish}
-use Rattle.order.specs.Order.{orderAlong, decidedOn, ordersOf, orderAt}
+use Rattle.floats.proofs.Lists.{all-at, same-bool, sameList, same-list}
+use Rattle.lines.specs.Lines.{three, signsAt}
+use Rattle.order.specs.Order.{decidedOn, ordersOf, orderAt}
 use Rattle.order.proofs.Every.{seven, eight}
 use Rattle.ring.specs.Places.{Place, samePlace, fifteen}
 use Rattle.ring.specs.Flags.{verticesIn, cornersIn, neighbours}

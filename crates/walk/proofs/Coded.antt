@@ -1,22 +1,21 @@
 -- The code's flags and ring are those of the rules, for every walk: one computed test. Assumes nothing.
 use mathlib.Core.Path.{_≡_}
 use mathlib.Core.Bool.{Bool, _&&_, Bool·beq}
-use mathlib.Core.List.{List, [], _∷_, map, reverse, List·Memᴰ}
+use mathlib.Core.List.{List, [], _∷_, map, List·Memᴰ}
 use Prim.Native.Nat.{ℕ}
 use lib.Dec.{T, eqb, eqb→eq}
 use lib.Ieee.Fits.{and-l, and-r}
-use lib.ListN.{length, take}
+use lib.ListN.{length}
 use Rattle.floats.specs.Lists.{all}
 use Rattle.floats.proofs.Lists.{same-bool, sameList, same-list}
 use Rattle.lines.specs.Lines.{signsAt}
 use Rattle.order.specs.Order.{ordersOf, orderAt}
-use Rattle.edges.specs.Code.{beforeIn}
 use Rattle.order.proofs.Every.{seven, eight}
 use Rattle.walk.specs.declared.Ring.{Ring}
 use Rattle.ring.specs.Flags.{verticesIn, cornersIn, neighbours}
 use Rattle.ring.specs.Ring.{ring}
 use Rattle.walk.specs.Code.{codeOf, codesOf, befores, ringOf, edgeOf, insideOf, neighboursOf, walkOf, begun, alongEdge, closing, entering, leaving, cornered, pushed, lineAmong, isOnLine}
-use Rattle.ring.proofs.Walks.{Test, allWalks, walksFrom, inAllOrders, every-walk}
+use Rattle.ring.proofs.Walks.{allWalks, walksFrom, inAllOrders, every-walk}
 
 sameBools : List Bool → List Bool → Bool
 sameBools = sameList Bool·beq

@@ -1,6 +1,5 @@
 -- Each turn takes one byte.
 use Prim.Native.Nat.{_≤_, _-_}
-use lib.ListN.{length}
 use borrow.Author.Needs.{needs}
 use Rattle.cases_triangles.proofs.main.Statement.{statement}
 use Rattle.cases_triangles.proofs.main.Tie as tie

@@ -4,7 +4,6 @@ use mathlib.Core.Bool.{Bool, true, false, _&&_}
 use mathlib.Core.List.{List}
 use Prim.Native.Nat.{ℕ}
 use Rattle.floats.proofs.Lists.{taken, left}
-use Rattle.edges.specs.declared.Order.{Order}
 use Rattle.edges.specs.declared.Test.{Test}
 use Rattle.edges.specs.Code.{tested, seenFirst, inOrder, ordered, aroundBy}
 use borrow.Author.Needs.{needs}

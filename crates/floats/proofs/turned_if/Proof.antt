@@ -1,5 +1,5 @@
 -- The sign is turned exactly where the test holds.
-use mathlib.Core.Path.{_≡_, refl}
+use mathlib.Core.Path.{refl}
 use lib.Ieee.{neg}
 use Rattle.floats.proofs.turned_if.Statement.{statement}
 use Rattle.floats.proofs.turned_if.Tie as tie

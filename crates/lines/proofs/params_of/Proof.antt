@@ -7,7 +7,7 @@ use Rattle.floats.specs.Finite.{nought}
 use Rattle.floats.specs.Numbers.{crossFrom}
 use Rattle.floats.specs.Way.{Way, given, _⊖_, negated, f64, at}
 use Rattle.lines.specs.declared.Params.{Params}
-use Rattle.lines.specs.Parameters.{Parameters, valuesOf}
+use Rattle.lines.specs.Parameters.{valuesOf}
 use Rattle.lines.proofs.params_of.Statement.{statement}
 use Rattle.lines.proofs.params_of.Tie as tie
 

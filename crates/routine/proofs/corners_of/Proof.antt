@@ -1,13 +1,10 @@
 -- Each turn lays one more position.
-use mathlib.Core.Path.{_≡_, refl, sym, ap, ap₂, _∙_}
-use mathlib.Core.Bool.{_&&_}
-use mathlib.Core.List.{[], _∷_, _++_}
+use mathlib.Core.Path.{_≡_, refl, sym, ap, _∙_}
 use Prim.Native.Nat.{_*_, _-_, _≤_}
 use native.Mathlib.Nat.{le-antisymm}
-use native.Mathlib.Numerals.{add-one}
 use native.Mathlib.Omega.{arith}
 use lib.ListN.{length, take}
-use Rattle.routine.specs.Code.{spotAt, spotsTo, fineTo}
+use Rattle.routine.specs.Code.{spotsTo, fineTo}
 use Rattle.routine.proofs.Turns.{one-laid, one-fine}
 use borrow.Author.Needs.{needs}
 use Rattle.routine.proofs.corners_of.Statement.{statement}

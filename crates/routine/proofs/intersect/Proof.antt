@@ -1,5 +1,5 @@
 -- Lengths first, then the rows to the parameters, then the rest.
-use mathlib.Core.Path.{refl, sym, _∙_}
+use mathlib.Core.Path.{sym, _∙_}
 use mathlib.Core.Logic.{inl, inr}
 use denote.Ref.{now}
 use Rattle.routine.proofs.Entry.{all-given, front-kept, lengths-kept}

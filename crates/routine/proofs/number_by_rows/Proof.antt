@@ -1,6 +1,6 @@
 -- Row by row, in the order of the table.
-use mathlib.Core.Path.{refl, sym, ap, ap₂, _∙_}
-use mathlib.Core.Bool.{not, _&&_}
+use mathlib.Core.Path.{refl, sym, ap₂, _∙_}
+use mathlib.Core.Bool.{_&&_}
 use lib.Ieee.{eq, ofBits}
 use Rattle.floats.proofs.Lists.{taken, left}
 use Rattle.routine.proofs.Front.{frontBy, to-front, not-of}

@@ -1,9 +1,8 @@
 -- Each turn writes one more value.
-use mathlib.Core.Path.{_≡_, refl}
+use mathlib.Core.Path.{_≡_}
 use Prim.Native.Nat.{_-_, _≤_}
-use native.Mathlib.Omega.{arith}
 use lib.ListN.{length}
-use lib.Seq.{paste, paste-zero}
+use lib.Seq.{paste}
 use Rattle.routine.proofs.Turns.{one-written, all-written}
 use borrow.Author.Needs.{needs}
 use Rattle.routine.proofs.write.Statement.{statement}

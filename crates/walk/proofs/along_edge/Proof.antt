@@ -1,5 +1,5 @@
 -- Start, entry and exit in turn.
-use mathlib.Core.Path.{refl, ap, ap₂, _∙_}
+use mathlib.Core.Path.{ap, ap₂, _∙_}
 use Rattle.walk.specs.Code.{pushed, entering, leaving, alongEdge}
 use borrow.Author.Needs.{needs}
 use Rattle.walk.proofs.along_edge.Statement.{statement}

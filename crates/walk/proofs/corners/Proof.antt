@@ -5,7 +5,7 @@ use mathlib.Core.List.{List}
 use Prim.Native.Nat.{ℕ}
 use Rattle.lines.specs.Lines.{sign}
 use Rattle.walk.specs.declared.Walk.{Walk}
-use Rattle.walk.specs.Code.{pushed, isOnLine, cornered}
+use Rattle.walk.specs.Code.{pushed, cornered}
 use borrow.Author.Needs.{needs}
 use Rattle.walk.proofs.corners.Statement.{statement}
 use Rattle.walk.proofs.corners.Tie as tie
