@@ -1,12 +1,12 @@
 /* Meskelow: the intersection of two triangles, proved bit for bit against its rules (docs/RULES.md).
  *
- * Link target/staticlib/libmeskelow.a, which `rt staticlib meskelow` makes: x86-64 Linux code that calls nothing, allocates
- * nothing, keeps no state and may be called from any number of threads at once.
+ * Link target/staticlib/libmeskelow.a, which `rt staticlib meskelow` makes: x86-64 Linux code that calls nothing but the C
+ * library's memcpy, allocates nothing, keeps no state and may be called from any number of threads at once.
  *
  * What is proved (docs/PROMISES.md names each theorem): whatever numbers and lengths are passed, every call ends and returns
  * exactly the answer of the rules, in every bit of every field and of the room; nothing is read or written outside the two
  * slices; nothing is written beyond the first 2n values of the room, and nothing at all by a call that is refused. Not
- * proved: the compiler's back end, and the caller.
+ * proved: the compiler's back end, memcpy, and the caller.
  *
  * What is left to the caller: `values_len` and `room_len` are true, so that so many doubles may be read, and in the room
  * read and written; the two do not overlap; and the processor rounds to nearest and keeps subnormal values, as it does

@@ -26,7 +26,7 @@ struct Corners {
     fine: bool,
 }
 
-// A number, and zeros.
+// A number, and zeros: a refusal, or with 0 the answer of a pair of which nothing meets.
 fn refused(k: u32) -> triangles::Answer
     ensures { λ r. ⌜ r ≡ refusal k ⌝ }
 {
@@ -51,6 +51,7 @@ fn position_at(values: &[f64], k: usize) -> floats::Position
     }
 }
 
+// Whether no value is NaN or an infinity.
 fn all_finite(values: &[f64]) -> bool
     ensures { λ r. ⌜ r ≡ all finite (now (values .entry)) ⌝ }
 {

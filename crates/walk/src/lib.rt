@@ -56,6 +56,7 @@ fn edge_of(s: [bool; 3], t: [bool; 3], before: [bool; 3]) -> Edge
     }
 }
 
+// Nothing met yet.
 fn begin() -> Walk
     ensures { λ r. ⌜ r ≡ begun ⌝ }
 {
