@@ -2,3 +2,4 @@ pub mod Lists
 pub mod Finite
 pub mod Numbers
 pub mod Way
+pub mod Whole

@@ -1,0 +1,94 @@
+-- Recordings lie end to end from 0 to the table, so each begins at a multiple of 24 and ends before the table; and a byte of a part is the file's byte that many places further on. Assumes nothing.
+use Prim.Native.Nat.{ℕ, zero, suc, _+_, _-_, _*_, _<_, _≤_}
+use mathlib.Core.Path.{_≡_, refl, sym, ap, subst, _∙_}
+use mathlib.Core.Logic.{_⊎_, ⊎-elim}
+use mathlib.Core.List.{List, List·Memᴰ}
+use native.Mathlib.Omega.{arith}
+use native.Mathlib.Nat.{eq-or-lt-of-le, add-assoc}
+use lib.ListN.{length, take, drop, getD, length-take, length-drop}
+use lib.Seq.{getD-take, getD-drop, length-take-le}
+use lib.IntN.{ℤ, natAbs}
+use lib.Ieee.{binary64, ofInt}
+use Rattle.layout.specs.Bytes.{byteAt, u32At, signed, i32At}
+use Rattle.layout.specs.Parts.{Triangle, numbersOf, tablePlace, countOf, entryAt, endOf, triangleFrom, triangleAt}
+use Rattle.layout.specs.Rules.{twiceArea}
+use Rattle.layout.specs.Layout.{Layout}
+use Rattle.layout.specs.Recordings.{bytesOf, partOf, f64At}
+use Rattle.layout.specs.Inside.{Inside, PartsInside}
+use Rattle.layout.specs.declared.Entry.{Entry}
+use Rattle.layout.proofs.Returned.{is-good, there-is}
+
+-- ---- a part of a list of bytes
+module _ (file : List ℕ) (a n : ℕ) where
+  byte-part : (x : ℕ) → x < n → byteAt (take n (drop a file)) x ≡ byteAt file (a + x)
+  byte-part x h = getD-take n (drop a file) x 0 h ∙ getD-drop a file x 0
+
+  number-part : (x : ℕ) → x + 4 ≤ n → i32At (take n (drop a file)) x ≡ i32At file (a + x)
+  unfolding i32At u32At
+  number-part x h =
+      rw (byte-part x (omega arith), byte-part (x + 1) (omega arith), byte-part (x + 2) (omega arith), byte-part (x + 3) (omega arith))
+      (simp add-assoc)
+
+  triangle-part : (x : ℕ) → x + 24 ≤ n → triangleFrom (take n (drop a file)) x ≡ triangleFrom file (a + x)
+  unfolding triangleFrom
+  triangle-part x h =
+      rw (number-part x (omega arith), number-part (x + 4) (omega arith), number-part (x + 8) (omega arith), number-part (x + 12) (omega arith), number-part (x + 16) (omega arith), number-part (x + 20) (omega arith))
+      (simp add-assoc)
+
+module _ (file : List ℕ) (l : Layout file) where
+  -- an entry begins at a multiple of 24
+  abbrev Whole : ℕ → Type 0
+  Whole place = (t : ℕ) × (place ≡ 24 * t)
+
+  begins : (i : ℕ) → i < countOf file → Whole (entryAt file i .first)
+  begins zero h = (0, l .fromStart h)
+  begins (suc i) h =
+      let w = begins i (omega arith) in
+      let q : i + 1 ≡ suc i = omega arith in
+      let e = subst (λ n. entryAt file n .first ≡ endOf (entryAt file i)) q (l .endToEnd i (omega arith)) in
+      (w .0 + entryAt file i .count, let b = w .1 in omega (arith, e, b))
+
+  -- and ends before the table: the last one at the table, each other where the next begins, which has an end further on
+  ends : (m i : ℕ) → i + m + 1 ≡ countOf file → endOf (entryAt file i) ≤ tablePlace file
+  ends zero i h = let q = l .toTable i (omega arith) in omega (arith, q)
+  ends (suc m) i h =
+      let e = l .endToEnd i (omega arith) in
+      let b = ends m (i + 1) (omega arith) in
+      omega (arith, e, b)
+
+  module _ (k : ℕ) (h : k < countOf file) where
+    is-part : partOf file k ≡ bytesOf file (entryAt file k)
+    is-part = there-is file k (is-good file l) h .1
+
+    before : endOf (entryAt file k) ≤ tablePlace file
+    before = ends (countOf file - (k + 1)) k (omega arith)
+
+    in-file : endOf (entryAt file k) ≤ length file
+    in-file = omega (arith, before, l .filled)
+
+    triangle : (j : ℕ) → j < entryAt file k .count → (n : ℕ) × (entryAt file k .first + 24 * j ≡ 24 * n) × (24 * n + 24 ≤ tablePlace file) × (triangleFrom (partOf file k) (24 * j) ≡ triangleAt file n)
+    unfolding triangleAt
+    triangle j c =
+        let w = begins k h in
+        let p : entryAt file k .first + 24 * j ≡ 24 * (w .0 + j) = let b = w .1 in omega (arith, b) in (
+          w .0 + j,
+          p,
+          omega (arith, before, p),
+          ap (λ part. triangleFrom part (24 * j)) is-part ∙ (triangle-part file (entryAt file k .first) (24 * entryAt file k .count) (24 * j) (omega arith) ∙ ap (triangleFrom file) p),
+        )
+
+    pub inside-is : Inside file k
+    inside-is = record {
+      beforeTable = before;
+      inFile = in-file;
+      partLength = rw is-part (length-take-le (24 * entryAt file k .count) (drop (entryAt file k .first) file) (rw (length-drop (entryAt file k .first) file) (omega (arith, in-file))));
+      ofFile = triangle;
+      sameByte = λ at c. rw is-part (byte-part file (entryAt file k .first) (24 * entryAt file k .count) at c);
+      sameNumber = λ at c. rw is-part (number-part file (entryAt file k .first) (24 * entryAt file k .count) at c);
+      sameFloat = λ at c. unfold f64At in ap (ofInt binary64) (rw is-part (number-part file (entryAt file k .first) (24 * entryAt file k .count) at c));
+      inRange = λ j c z m. let t = triangle j c in l .inRange (t .0) (t .2) z (subst (λ x. List·Memᴰ z (numbersOf x)) (t .3) m);
+      someArea = λ j c q. let t = triangle j c in l .someArea (t .0) (t .2) (sym (ap twiceArea (t .3)) ∙ q);
+    }
+
+pub parts-inside : PartsInside
+parts-inside file k l h = inside-is file l k h

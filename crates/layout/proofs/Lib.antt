@@ -1,0 +1,6 @@
+pub mod Tests
+pub mod Order
+pub mod Rows
+pub mod Accepted
+pub mod Returned
+pub mod Inside

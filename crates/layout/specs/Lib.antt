@@ -1,0 +1,9 @@
+pub mod Bytes
+pub mod Parts
+pub mod Rules
+pub mod Verdict
+pub mod Layout
+pub mod Rows
+pub mod Recordings
+pub mod Promise
+pub mod Inside

@@ -1,0 +1,57 @@
+-- What each entry point promises of its result, for all bytes, and demand 1 of files, read off the promises. Statements only.
+use Prim.Native.Nat.{ℕ, _<_, _≤_}
+use mathlib.Core.Path.{_≡_}
+use mathlib.Core.Logic.{_⊎_, _↔_}
+use mathlib.Core.List.{List, []}
+use Rattle.layout.specs.Parts.{countOf}
+use Rattle.layout.specs.Verdict.{Row, numberOf, placeOf, said, good, verdict}
+use Rattle.layout.specs.Layout.{Layout}
+use Rattle.layout.specs.Rows.{First}
+use Rattle.layout.specs.Recordings.{recordingOf, partOf}
+use Rattle.layout.specs.declared.Verdict.{Verdict}
+use Rattle.layout.specs.declared.Recording.{Recording}
+
+-- of the check: what is said of the file
+abbrev pub Checked : List ℕ → Verdict → Type 0
+Checked file result = result ≡ verdict file
+
+-- of a recording: its entry, or a refusal
+abbrev pub Recorded : List ℕ → ℕ → Recording → Type 0
+Recorded file k result = result ≡ recordingOf file k
+
+-- of a part: the recording's bytes, or none
+abbrev pub Parted : List ℕ → ℕ → List ℕ → Type 0
+Parted file k part = part ≡ partOf file k
+
+-- no second result meets any of them
+pub record NoSecondAnswer : Type 0 where
+  pub check : (file : List ℕ) (a b : Verdict) → Checked file a → Checked file b → a ≡ b
+  pub recording : (file : List ℕ) (k : ℕ) (a b : Recording) → Recorded file k a → Recorded file k b → a ≡ b
+  pub part : (file : List ℕ) (k : ℕ) (a b : List ℕ) → Parted file k a → Parted file k b → a ≡ b
+
+-- nothing beside a refusal's number and place
+pub record Zeros (r : Recording) : Type 0 where
+  pub id : r .id ≡ 0
+  pub first : r .first ≡ 0
+  pub count : r .count ≡ 0
+  pub set : r .set ≡ 0
+  pub last : r .last ≡ 0
+
+pub record Demand1 (file : List ℕ) (k : ℕ) (v : Verdict) (r : Recording) (part : List ℕ) : Type 0 where
+  -- the check says a row's number and place exactly if that row is the first that applies, good exactly if the file has the layout, and nothing else
+  pub refusedBy : (row : Row) → (v ≡ said (numberOf row) (placeOf file row)) ↔ First file row
+  pub accepted : (v ≡ good) ↔ Layout file
+  pub nothingElse : (v ≡ good) ⊎ ((row : Row) × (v ≡ said (numberOf row) (placeOf file row)))
+  -- a recording of a refused file has the file's number and place, whatever recording is asked for
+  pub fileFirst : (v .number ≡ 0 → ⊥) → (r .number ≡ v .number) × (r .place ≡ v .place)
+  -- of a good file a recording that there is is answered, any other refused with 10 at 0
+  pub answered : (r .number ≡ 0) ↔ (Layout file × (k < countOf file))
+  pub noSuch : (r .number ≡ 10) ↔ (Layout file × (countOf file ≤ k))
+  pub noPlace : r .number ≡ 10 → r .place ≡ 0
+  -- the numbers are 10 to 18, and beside them there are zeros and an empty part
+  pub numbers : (r .number ≡ 0 → ⊥) → (10 ≤ r .number) × (r .number ≤ 18)
+  pub zeros : (r .number ≡ 0 → ⊥) → Zeros r
+  pub noPart : (r .number ≡ 0 → ⊥) → part ≡ []
+
+abbrev pub ReturnedOne : Type 0
+ReturnedOne = (file : List ℕ) (k : ℕ) (v : Verdict) (r : Recording) (part : List ℕ) → Checked file v → Recorded file k r → Parted file k part → Demand1 file k v r part
