@@ -4,3 +4,5 @@ pub mod Rows
 pub mod Accepted
 pub mod Returned
 pub mod Inside
+pub mod Size
+pub mod Cross

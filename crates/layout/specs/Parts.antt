@@ -14,6 +14,13 @@ pub record Triangle : Type 0 where
   pub v1 : Point ℤ
   pub v2 : Point ℤ
 
+-- by its six numbers, in their order, and these again
+abbrev pub triangleOf : ℤ → ℤ → ℤ → ℤ → ℤ → ℤ → Triangle
+triangleOf x0 y0 x1 y1 x2 y2 = record { v0 = record { x = x0; y = y0 }; v1 = record { x = x1; y = y1 }; v2 = record { x = x2; y = y2 } }
+
+abbrev pub numbersOf : Triangle → List ℤ
+numbersOf t = t .v0 .x ∷ t .v0 .y ∷ t .v1 .x ∷ t .v1 .y ∷ t .v2 .x ∷ t .v2 .y ∷ []
+
 -- triangles stand first, 24 bytes each
 abbrev pub trianglePlace : ℕ → ℕ
 trianglePlace k = 24 * k
@@ -49,11 +56,7 @@ module _ (file : List ℕ) where
   -- 24 bytes at a place as a triangle: x and y of each vertex
   unfoldable pub triangleFrom : ℕ → Triangle
   unfolding i32At
-  triangleFrom at = record {
-    v0 = record { x = i32At file at; y = i32At file (at + 4) };
-    v1 = record { x = i32At file (at + 8); y = i32At file (at + 12) };
-    v2 = record { x = i32At file (at + 16); y = i32At file (at + 20) };
-  }
+  triangleFrom at = triangleOf (i32At file at) (i32At file (at + 4)) (i32At file (at + 8)) (i32At file (at + 12)) (i32At file (at + 16)) (i32At file (at + 20))
 
   -- the triangles, first of all: triangle k, and how many there are before the table
   unfoldable pub triangleAt : ℕ → Triangle
@@ -73,7 +76,3 @@ unfoldable pub endBefore : List ℕ → ℕ → ℕ
 unfolding entryAt
 endBefore file zero = 0
 endBefore file (suc i) = endOf (entryAt file i)
-
--- a triangle's six numbers, in their order
-abbrev pub numbersOf : Triangle → List ℤ
-numbersOf t = t .v0 .x ∷ t .v0 .y ∷ t .v1 .x ∷ t .v1 .y ∷ t .v2 .x ∷ t .v2 .y ∷ []
