@@ -6,3 +6,4 @@ pub mod Returned
 pub mod Inside
 pub mod Size
 pub mod Cross
+pub mod Stages

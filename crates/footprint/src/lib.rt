@@ -1,0 +1,216 @@
+// The reader of footprint files. `check` judges a file's bytes; whatever else is asked of a file asks it first.
+ghost use mathlib.Core.Path.{_≡_};
+ghost use mathlib.Core.List.{_∷_, []};
+ghost use Prim.Native.Nat.{_+_, _-_, _*_, _≤_, _<_};
+ghost use lib.ListN.{length};
+ghost use Rattle.layout.specs.Bytes.{two as twoOf, four as fourOf, u16At, u32At, i32At};
+ghost use Rattle.layout.specs.Parts.{entryFrom, entryPlace, tablePlace, countOf, triangleFrom};
+ghost use Rattle.layout.specs.Rules.{isSeen, triangleRule};
+ghost use Rattle.layout.specs.Verdict.{idsBefore, firstOf};
+ghost use Rattle.layout.specs.Recordings.{f64At};
+ghost use Rattle.layout.specs.Promise.{Checked, Recorded, Parted};
+ghost use Rattle.layout.proofs.Stages.{trailerRows, tableRows, triangleRows};
+
+fn wide(a: u8) -> u32
+    ensures { λ r. ⌜ r ≡ a ⌝ }
+{
+    a as u32
+}
+
+fn two(a: u8, b: u8) -> u32
+    ensures { λ r. ⌜ (r ≡ twoOf a b) × (r < 65536) ⌝ }
+{
+    a as u32 + b as u32 * 256
+}
+
+fn four(a: u8, b: u8, c: u8, d: u8) -> u32
+    ensures { λ r. ⌜ r ≡ fourOf a b c d ⌝ }
+{
+    a as u32 + b as u32 * 256 + c as u32 * 65536 + d as u32 * 16777216
+}
+
+// The numbers at a place that is known to lie in the file.
+fn u16_in(file: &[u8], at: usize) -> u32
+    requires { ⌜ at + 2 ≤ length (now file) ⌝ }
+    ensures { λ r. ⌜ (r ≡ u16At (now (file .entry)) at) × (r < 65536) ⌝ }
+{
+    two(file[at], file[at + 1])
+}
+
+fn u32_in(file: &[u8], at: usize) -> u32
+    requires { ⌜ at + 4 ≤ length (now file) ⌝ }
+    ensures { λ r. ⌜ r ≡ u32At (now (file .entry)) at ⌝ }
+{
+    four(file[at], file[at + 1], file[at + 2], file[at + 3])
+}
+
+fn i32_in(file: &[u8], at: usize) -> i32
+    requires { ⌜ at + 4 ≤ length (now file) ⌝ }
+    ensures { λ r. ⌜ r ≡ i32At (now (file .entry)) at ⌝ }
+{
+    layout::signed(u32_in(file, at))
+}
+
+fn entry_in(file: &[u8], at: usize) -> layout::Entry
+    requires { ⌜ at + 12 ≤ length (now file) ⌝ }
+    ensures { λ r. ⌜ (r ≡ entryFrom (now (file .entry)) at) × (r .count < 65536) ⌝ }
+{
+    let id = u32_in(file, at);
+    let first = u32_in(file, at + 4);
+    let count = u16_in(file, at + 8);
+    let set = wide(file[at + 10]);
+    let last = wide(file[at + 11]);
+    layout::Entry {
+        id,
+        first,
+        count,
+        set,
+        last,
+    }
+}
+
+// Whether one of the first i entries has this id.
+fn is_seen(file: &[u8], table: usize, i: usize, id: u32) -> bool
+    requires { ⌜ (i ≤ 64) × (table ≡ tablePlace (now file)) × (table + 12 * i ≤ length (now file)) ⌝ }
+    ensures { λ r. ⌜ r ≡ isSeen id (idsBefore (now (file .entry)) i) ⌝ }
+{
+    let mut j = i;
+    while 0 < j {
+        j = j - 1;
+        if u32_in(file, table + 12 * j) == id {
+            return true;
+        }
+    }
+    false
+}
+
+// Refusals 11, 12 and 13.
+fn trailer(file: &[u8]) -> layout::Verdict
+    ensures { λ r. ⌜ r ≡ firstOf (now (file .entry)) (trailerRows (now (file .entry))) ⌝ }
+{
+    let n = file.len();
+    if n < 12 {
+        return layout::Verdict {
+            number: 11,
+            place: 0,
+        };
+    }
+    if 65536 < n {
+        return layout::Verdict {
+            number: 11,
+            place: 0,
+        };
+    }
+    if u32_in(file, n - 4) as usize != n {
+        return layout::Verdict {
+            number: 12,
+            place: 0,
+        };
+    }
+    let count = u32_in(file, n - 8) as usize;
+    if 64 < count {
+        return layout::Verdict {
+            number: 13,
+            place: (n - 12) as u32,
+        };
+    }
+    if u32_in(file, n - 12) as usize + 12 * count + 12 != n {
+        return layout::Verdict {
+            number: 13,
+            place: (n - 12) as u32,
+        };
+    }
+    layout::Verdict {
+        number: 0,
+        place: 0,
+    }
+}
+
+// Refusals 14 and 16 of each entry in turn, then 15.
+fn entries(file: &[u8], table: usize, count: usize) -> layout::Verdict
+    requires { ⌜ (count ≤ 64) × (table ≡ tablePlace (now file)) × (count ≡ countOf (now file)) × (table + 12 * count + 12 ≡ length (now file)) × (length (now file) ≤ 65536) ⌝ }
+    ensures { λ r. ⌜ r ≡ firstOf (now (file .entry)) (tableRows (now (file .entry))) ⌝ }
+{
+    let mut i: usize = 0;
+    let mut end: u32 = 0;
+    while i < count {
+        let at = table + 12 * i;
+        let e = entry_in(file, at);
+        let seen = is_seen(file, table, i, e.id);
+        let number = layout::entry_rule(e, end, seen);
+        if number != 0 {
+            return layout::Verdict {
+                number,
+                place: at as u32,
+            };
+        }
+        end = end + 24 * e.count;
+        i = i + 1;
+    }
+    if end as usize != table {
+        return layout::Verdict {
+            number: 15,
+            place: table as u32,
+        };
+    }
+    layout::Verdict {
+        number: 0,
+        place: 0,
+    }
+}
+
+// The number of the triangle at a place: 17, 18 or 0.
+fn triangle_in(file: &[u8], at: usize) -> u32
+    requires { ⌜ at + 24 ≤ length (now file) ⌝ }
+    ensures { λ r. ⌜ r ≡ triangleRule (triangleFrom (now (file .entry)) at) ⌝ }
+{
+    let x0 = i32_in(file, at);
+    let y0 = i32_in(file, at + 4);
+    let x1 = i32_in(file, at + 8);
+    let y1 = i32_in(file, at + 12);
+    let x2 = i32_in(file, at + 16);
+    let y2 = i32_in(file, at + 20);
+    layout::triangle_rule(x0, y0, x1, y1, x2, y2)
+}
+
+// Refusals 17 and 18 of each triangle in turn.
+fn triangles(file: &[u8], table: usize) -> layout::Verdict
+    requires { ⌜ (table ≡ tablePlace (now file)) × (table + 12 ≤ length (now file)) × (length (now file) ≤ 65536) ⌝ }
+    ensures { λ r. ⌜ r ≡ firstOf (now (file .entry)) (triangleRows (now (file .entry))) ⌝ }
+{
+    let n = table / 24;
+    let mut k: usize = 0;
+    while k < n {
+        let at = 24 * k;
+        let number = triangle_in(file, at);
+        if number != 0 {
+            return layout::Verdict {
+                number,
+                place: at as u32,
+            };
+        }
+        k = k + 1;
+    }
+    layout::Verdict {
+        number: 0,
+        place: 0,
+    }
+}
+
+// What is said of a file: 0 at 0 if it is good, else the refusal of its first row that applies, at that row's place.
+pub fn check(file: &[u8]) -> layout::Verdict
+    ensures { λ r. ⌜ Checked (now (file .entry)) r ⌝ }
+{
+    let v = trailer(file);
+    if v.number != 0 {
+        return v;
+    }
+    let n = file.len();
+    let table = u32_in(file, n - 12) as usize;
+    let count = u32_in(file, n - 8) as usize;
+    let w = entries(file, table, count);
+    if w.number != 0 {
+        return w;
+    }
+    triangles(file, table)
+}

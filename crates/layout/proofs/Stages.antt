@@ -1,0 +1,110 @@
+-- The verdict stage by stage, as a reader comes to it: what the rows of a thing say together is its rule's number at its place, and one thing after the other is looked at. Assumes nothing.
+use Prim.Native.Nat.{ℕ, zero, suc, _+_, _-_, _<_, _≤_}
+use mathlib.Core.Path.{_≡_, refl, sym, ap, ap₂, subst, _∙_}
+use mathlib.Core.Bool.{Bool, true, false, cond}
+use mathlib.Core.List.{List, [], _∷_, _++_}
+use native.Mathlib.Omega.{arith}
+use lib.Dec.{eqb}
+use borrow.Author.Tests.{eq-eqb, ne-eqb}
+use Rattle.layout.specs.Parts.{countOf, entryPlace, entryAt, endBefore, trianglePlace, triangleAt, trianglesOf}
+use Rattle.layout.specs.Rules.{isBadEntry, isSeen, isOutOfRange, isFlat, entryRule, triangleRule}
+use Rattle.layout.specs.Verdict.{Row, badLength, otherLength, badTrailer, badEntry, idAgain, wrongEnd, outOfRange, flat, numberOf, placeOf, test, idsBefore, inTurn, rows, firstOf, said, good, verdict}
+use Rattle.layout.specs.declared.Verdict.{Verdict}
+
+-- the first of two that is a refusal
+abbrev pub orElse : Verdict → Verdict → Verdict
+orElse v w = cond (eqb (v .number) 0) w v
+
+pub refused : (v w : Verdict) → (v .number ≡ 0 → ⊥) → orElse v w ≡ v
+refused v w h = rw (ne-eqb (v .number) 0 h) refl
+
+pub passed : (v w : Verdict) → v .number ≡ 0 → orElse v w ≡ w
+passed v w h = rw (eq-eqb (v .number) 0 h) refl
+
+nonzero : (row : Row) → numberOf row ≡ 0 → ⊥
+nonzero badLength e = omega arith
+nonzero otherLength e = omega arith
+nonzero badTrailer e = omega arith
+nonzero (badEntry i) e = omega arith
+nonzero (idAgain i) e = omega arith
+nonzero wrongEnd e = omega arith
+nonzero (outOfRange k) e = omega arith
+nonzero (flat k) e = omega arith
+
+-- a number at a place, or what comes after it
+abbrev pub atOr : ℕ → ℕ → Verdict → Verdict
+atOr number place rest = cond (eqb number 0) rest (said number place)
+
+module _ (file : List ℕ) where
+  pub append : (xs ys : List Row) → firstOf file (xs ++ ys) ≡ orElse (firstOf file xs) (firstOf file ys)
+  unfolding firstOf
+  append [] ys = refl
+  append (row ∷ xs) ys = go (test file row) (append xs ys)
+    where
+      go : (b : Bool) → firstOf file (xs ++ ys) ≡ orElse (firstOf file xs) (firstOf file ys) → cond b (said (numberOf row) (placeOf file row)) (firstOf file (xs ++ ys)) ≡ orElse (cond b (said (numberOf row) (placeOf file row)) (firstOf file xs)) (firstOf file ys)
+      go true h = sym (refused (said (numberOf row) (placeOf file row)) (firstOf file ys) (nonzero row))
+      go false h = h
+
+  -- two rows of one thing, as one number at its place
+  pair : (r s : Row) (rest : List Row) (place : ℕ) → placeOf file r ≡ place → placeOf file s ≡ place → firstOf file (r ∷ s ∷ rest) ≡ atOr (cond (test file r) (numberOf r) (cond (test file s) (numberOf s) 0)) place (firstOf file rest)
+  unfolding firstOf
+  pair r s rest place p q = go (test file r) (test file s)
+    where
+      go : (a b : Bool) → cond a (said (numberOf r) (placeOf file r)) (cond b (said (numberOf s) (placeOf file s)) (firstOf file rest)) ≡ atOr (cond a (numberOf r) (cond b (numberOf s) 0)) place (firstOf file rest)
+      go true b = ap (said (numberOf r)) p ∙ rw (ne-eqb (numberOf r) 0 (nonzero r)) refl
+      go false true = ap (said (numberOf s)) q ∙ rw (ne-eqb (numberOf s) 0 (nonzero s)) refl
+      go false false = refl
+
+  -- a turn of a loop over things in turn: it stops, goes on, or ends
+  module _ (first second : ℕ → Row) (number place : ℕ → ℕ) (says : (i : ℕ) (rest : List Row) → firstOf file (first i ∷ second i ∷ rest) ≡ atOr (number i) (place i) (firstOf file rest)) where
+    step : (m i : ℕ) (rest : List Row) → firstOf file (inTurn first second (suc m) i ++ rest) ≡ atOr (number i) (place i) (firstOf file (inTurn first second m (i + 1) ++ rest))
+    unfolding inTurn
+    step m i rest = says i (inTurn first second m (i + 1) ++ rest)
+
+    at : (k i : ℕ) (rest : List Row) → i < k → firstOf file (inTurn first second (k - i) i ++ rest) ≡ atOr (number i) (place i) (firstOf file (inTurn first second (k - (i + 1)) (i + 1) ++ rest))
+    at k i rest h = let q : k - i ≡ suc (k - (i + 1)) = omega arith in ap (λ n. firstOf file (inTurn first second n i ++ rest)) q ∙ step (k - (i + 1)) i rest
+
+    pub stops : (k i : ℕ) (rest : List Row) {n p : ℕ} → i < k → n ≡ number i → p ≡ place i → (n ≡ 0 → ⊥) → said n p ≡ firstOf file (inTurn first second (k - i) i ++ rest)
+    stops k i rest {n} {p} h e q z = sym (at k i rest h ∙ rw (sym e, sym q, ne-eqb n 0 z) refl)
+
+    pub goes-on : (k i : ℕ) (rest : List Row) {n : ℕ} → i < k → n ≡ number i → n ≡ 0 → firstOf file (inTurn first second (k - i) i ++ rest) ≡ firstOf file (inTurn first second (k - (i + 1)) (i + 1) ++ rest)
+    goes-on k i rest {n} h e z = at k i rest h ∙ rw (sym e, eq-eqb n 0 z) refl
+
+    pub ended : (k i : ℕ) (rest : List Row) → k ≤ i → firstOf file (inTurn first second (k - i) i ++ rest) ≡ firstOf file rest
+    unfolding inTurn
+    ended k i rest h = let q : k - i ≡ 0 = omega arith in rw q refl
+
+  -- ---- of entries and of triangles
+  abbrev pub entryNumber : ℕ → ℕ
+  entryNumber i = entryRule (entryAt file i) (endBefore file i) (isSeen (entryAt file i .id) (idsBefore file i))
+
+  pub entry-says : (i : ℕ) (rest : List Row) → firstOf file (badEntry i ∷ idAgain i ∷ rest) ≡ atOr (entryNumber i) (entryPlace file i) (firstOf file rest)
+  unfolding test placeOf entryRule
+  entry-says i rest = pair (badEntry i) (idAgain i) rest (entryPlace file i) refl refl
+
+  abbrev pub triangleNumber : ℕ → ℕ
+  triangleNumber k = triangleRule (triangleAt file k)
+
+  pub triangle-says : (k : ℕ) (rest : List Row) → firstOf file (outOfRange k ∷ flat k ∷ rest) ≡ atOr (triangleNumber k) (trianglePlace k) (firstOf file rest)
+  unfolding test placeOf triangleRule
+  triangle-says k rest = pair (outOfRange k) (flat k) rest (trianglePlace k) refl refl
+
+  -- ---- the whole: trailer, table, triangles
+  abbrev pub trailerRows : List Row
+  trailerRows = badLength ∷ otherLength ∷ badTrailer ∷ []
+
+  abbrev pub tableRows : List Row
+  tableRows = inTurn badEntry idAgain (countOf file) 0 ++ (wrongEnd ∷ [])
+
+  abbrev pub triangleRows : List Row
+  triangleRows = inTurn outOfRange flat (trianglesOf file) 0
+
+  pub by-stages : verdict file ≡ orElse (firstOf file trailerRows) (orElse (firstOf file tableRows) (firstOf file triangleRows))
+  unfolding verdict rows
+  by-stages =
+      append trailerRows (inTurn badEntry idAgain (countOf file) 0 ++ (wrongEnd ∷ triangleRows))
+      ∙ ap (orElse (firstOf file trailerRows)) (ap (firstOf file) (seam (inTurn badEntry idAgain (countOf file) 0) triangleRows) ∙ append tableRows triangleRows)
+    where
+      seam : (xs ys : List Row) → xs ++ (wrongEnd ∷ ys) ≡ (xs ++ (wrongEnd ∷ [])) ++ ys
+      seam [] ys = refl
+      seam (x ∷ xs) ys = ap (x ∷_) (seam xs ys)
