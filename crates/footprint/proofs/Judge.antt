@@ -5,10 +5,10 @@ use mathlib.Core.Bool.{Bool, true, false, not, _||_, cond, false≢true}
 use mathlib.Core.List.{List, [], _++_, append-nil}
 use native.Mathlib.Omega.{arith}
 use lib.Dec.{ltb, eqb}
-use lib.ListN.{length}
+use lib.ListN.{length, List·getD-eq-default}
 use lib.IntN.{ℤ}
 use borrow.Author.Tests.{ltb-false, eqb-true, not-false}
-use Rattle.layout.specs.Bytes.{u16At, u32At, byteAt}
+use Rattle.layout.specs.Bytes.{four, u16At, u32At, byteAt}
 use Rattle.layout.specs.Parts.{Triangle, triangleOf, tablePlace, countOf, storedLength, entryFrom, triangleFrom, triangleAt, trianglesOf}
 use Rattle.layout.specs.Verdict.{outOfRange, flat, inTurn, test, placeOf, firstOf, said, good, verdict}
 use Rattle.layout.specs.Rules.{isBadLength, isOtherLength, isBadTrailer, triangleRule}
@@ -81,3 +81,11 @@ from-start file {table} h = let q : table / 24 - 0 ≡ tablePlace file / 24 = om
 pub triangle-number : (file : List ℕ) (k : ℕ) {n : ℕ} → n ≡ triangleRule (triangleFrom file (24 * k)) → n ≡ triangleNumber file k
 unfolding triangleAt
 triangle-number file k h = h
+
+-- ---- a number that the end of the bytes cuts off
+pub none-there : (bytes : List ℕ) (at : ℕ) → length bytes ≤ at → 0 ≡ u32At bytes at
+unfolding u32At
+none-there bytes at h = sym (rw (List·getD-eq-default bytes 0 {n = at} h, List·getD-eq-default bytes 0 {n = at + 1} (omega arith), List·getD-eq-default bytes 0 {n = at + 2} (omega arith), List·getD-eq-default bytes 0 {n = at + 3} (omega arith)) refl)
+
+pub four-read : {a b c d a' b' c' d' r : ℕ} → a ≡ a' → b ≡ b' → c ≡ c' → d ≡ d' → r ≡ four a b c d → r ≡ four a' b' c' d'
+four-read p q s t h = h ∙ rw (p, q, s, t) refl

@@ -1,5 +1,5 @@
 -- Recordings lie end to end from 0 to the table, so each begins at a multiple of 24 and ends before the table; and a byte of a part is the file's byte that many places further on. Assumes nothing.
-use Prim.Native.Nat.{ℕ, zero, suc, _+_, _-_, _*_, _<_, _≤_}
+use Prim.Native.Nat.{ℕ, zero, suc, _+_, _-_, _*_, _<_, _≤_, _^_}
 use mathlib.Core.Path.{_≡_, refl, sym, ap, subst, _∙_}
 use mathlib.Core.Logic.{_⊎_, ⊎-elim}
 use mathlib.Core.List.{List, List·Memᴰ}
@@ -7,14 +7,16 @@ use native.Mathlib.Omega.{arith}
 use native.Mathlib.Nat.{eq-or-lt-of-le, add-assoc}
 use lib.ListN.{length, take, drop, getD, length-take, length-drop}
 use lib.Seq.{getD-take, getD-drop, length-take-le}
-use lib.IntN.{ℤ, natAbs}
-use lib.Ieee.{binary64, ofInt}
+use lib.Dec.{le→leb, lt→ltb}
+use lib.IntN.{ℤ, pos, negsuc, natAbs}
+use lib.Ieee.{binary64, ofInt, inFloat}
+use lib.Ieee.Back.{positive-back, negative-back}
 use Rattle.layout.specs.Bytes.{byteAt, u32At, signed, i32At}
 use Rattle.layout.specs.Parts.{Triangle, numbersOf, tablePlace, countOf, entryAt, endOf, triangleFrom, triangleAt}
 use Rattle.layout.specs.Rules.{twiceArea}
 use Rattle.layout.specs.Layout.{Layout}
 use Rattle.layout.specs.Recordings.{bytesOf, partOf, f64At}
-use Rattle.layout.specs.Inside.{Inside, PartsInside}
+use Rattle.layout.specs.Inside.{Inside, PartsInside, Unchanged}
 use Rattle.layout.specs.declared.Entry.{Entry}
 use Rattle.layout.proofs.Returned.{is-good, there-is}
 
@@ -92,3 +94,9 @@ module _ (file : List ℕ) (l : Layout file) where
 
 pub parts-inside : PartsInside
 parts-inside file k l h = inside-is file l k h
+
+-- whole numbers up to 2^53 are f64
+pub unchanged : Unchanged
+unfolding inFloat
+unchanged (pos n) h = positive-back binary64 31 n (le→leb n (2 ^ 53) (omega arith)) (omega arith) .1
+unchanged (negsuc n) h = negative-back binary64 31 n (lt→ltb n (2 ^ 53) (omega arith)) (omega arith) .1

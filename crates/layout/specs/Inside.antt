@@ -4,6 +4,7 @@ use mathlib.Core.Path.{_≡_}
 use mathlib.Core.List.{List, List·Memᴰ}
 use lib.ListN.{length}
 use lib.IntN.{ℤ, pos, natAbs}
+use lib.Ieee.{binary64, ofInt, toSigned}
 use Rattle.layout.specs.Bytes.{byteAt, i32At}
 use Rattle.layout.specs.Parts.{Triangle, numbersOf, tablePlace, countOf, entryAt, endOf, triangleFrom, triangleAt}
 use Rattle.layout.specs.Rules.{twiceArea}
@@ -26,3 +27,7 @@ pub record Inside (file : List ℕ) (k : ℕ) : Type 0 where
 
 abbrev pub PartsInside : Type 0
 PartsInside = (file : List ℕ) (k : ℕ) → Layout file → k < countOf file → Inside file k
+
+-- a coordinate in range becomes an f64 from which it comes back: it is unchanged
+abbrev pub Unchanged : Type 0
+Unchanged = (z : ℤ) → natAbs z ≤ 1000000 → toSigned 31 (ofInt binary64 z) ≡ z

@@ -1,0 +1,82 @@
+use native.Mathlib.Omega.{arith}
+use denote.Ref.{now}
+use Rattle.footprint.proofs.Recorded.{Answered, answered-of, no-part, part-is}
+use borrow.Author.Needs.{needs}
+use Rattle.footprint.proofs.part.Statement.{statement}
+use Rattle.footprint.proofs.part.Tie as tie
+use Rattle.footprint.proofs.part.Reads as reads
+use Rattle.footprint.proofs.part.Lts as lts
+use Rattle.footprint.proofs.recording.Reads as recording-reads
+
+told : (c : tie.Else1) → Answered (now (c .before .before .before .before .args .file)) (c .before .before .before .before .args .k) (c .before .before .recording .result)
+told c = answered-of _ _ (c .before .before .recording .ensures) (c .if1 .left)
+
+-- src/lib.rt:261:9
+recording-requires : tie.Need-recording-requires
+recording-requires c κs = search needs
+
+-- src/lib.rt:263:16
+sub-result : tie.Need-sub-result
+sub-result c = search needs
+
+-- src/lib.rt:263:16
+part-result-start : tie.Need-part-result-start
+part-result-start c = search needs
+
+-- src/lib.rt:263:16
+part-result-end : tie.Need-part-result-end
+part-result-end c = search needs
+
+-- src/lib.rt:263:9
+returns : tie.Need-returns
+returns c = no-part _ _ (c .before .before .before .recording .ensures) (c .before .if1 .taken)
+
+-- src/lib.rt:265:13
+cast-a : tie.Need-cast-a
+cast-a c = search needs
+
+-- src/lib.rt:266:22
+cast-b : tie.Need-cast-b
+cast-b c = search needs
+
+-- src/lib.rt:266:17
+mul-b : tie.Need-mul-b
+mul-b c = search needs
+
+-- src/lib.rt:266:13
+add-b : tie.Need-add-b
+add-b c = search needs
+
+-- src/lib.rt:267:5
+sub-result-2 : tie.Need-sub-result-2
+sub-result-2 c = search needs
+
+-- src/lib.rt:267:5
+part-result-start-2 : tie.Need-part-result-start-2
+part-result-start-2 c = search needs
+
+-- src/lib.rt:267:5
+part-result-end-2 : tie.Need-part-result-end-2
+part-result-end-2 c = let t = told (c .before .before) in omega (arith, t .inFile)
+
+-- src/lib.rt:258:1
+returns-2 : tie.Need-returns-2
+returns-2 c = part-is _ _ (told (c .before .before .before))
+
+pub part-spec : {M : Type 1} → statement M
+part-spec =
+    tie.close
+    (tie.spec
+    recording-requires
+    sub-result
+    part-result-start
+    part-result-end
+    returns
+    cast-a
+    cast-b
+    mul-b
+    add-b
+    sub-result-2
+    part-result-start-2
+    part-result-end-2
+    returns-2)
