@@ -1,5 +1,6 @@
 // The functions that programs in other languages call; include/meskelow.h declares them.
 ghost use Rattle.triangles.specs.Promise.{Promise};
+ghost use Rattle.layout.specs.Promise.{Checked, Recorded};
 
 // Two triangles, U0x, U0y, .. V2y: the answer, with the ring's corners at the front of the room, or a refusal, with the room as it was.
 #[no_mangle]
@@ -7,4 +8,20 @@ pub extern "C" fn meskelow_intersect(values: &[f64], room: &mut [f64]) -> triang
     ensures { λ r. ⌜ Promise (now (values .entry)) (now (room .entry)) r (now (room .exit)) ⌝ }
 {
     routine::intersect(values, room)
+}
+
+// A file's bytes: number 0 and place 0 if it has the layout of a footprint file, else the refusal and its place.
+#[no_mangle]
+pub extern "C" fn meskelow_check(file: &[u8]) -> layout::Verdict
+    ensures { λ r. ⌜ Checked (now (file .entry)) r ⌝ }
+{
+    footprint::check(file)
+}
+
+// Recording k of a file's bytes: its table entry, or a refusal's number and place with zeros.
+#[no_mangle]
+pub extern "C" fn meskelow_recording(file: &[u8], k: usize) -> layout::Recording
+    ensures { λ r. ⌜ Recorded (now (file .entry)) k r ⌝ }
+{
+    footprint::recording(file, k)
 }
