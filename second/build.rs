@@ -3,8 +3,8 @@
 use std::env;
 use std::path::PathBuf;
 
-/// `cases` is not among them: it must build where there is no library.
-const CALLERS: [&str; 3] = ["compare", "bench", "loop"];
+/// `cases` and `cases_files` are not among them: they must build where there is no library.
+const CALLERS: [&str; 4] = ["compare", "compare_files", "bench", "loop"];
 
 fn main() {
     let package =

@@ -1,5 +1,7 @@
 //! The library under test, called as a C program would call it.
 
+use crate::footprint::{Entry, Verdict};
+
 /// As the library hands it back. Flags stay bytes until somebody has looked at them, because a
 /// byte other than 0 or 1 is no bool.
 #[repr(C)]
@@ -16,6 +18,8 @@ pub struct Returned {
 extern "C" {
     fn meskelow_intersect(values: *const f64, values_len: usize, room: *mut f64, room_len: usize)
         -> Returned;
+    fn meskelow_check(file: *const u8, file_len: usize) -> Verdict;
+    fn meskelow_recording(file: *const u8, file_len: usize, k: usize) -> Entry;
 }
 
 #[inline]
@@ -29,4 +33,28 @@ pub fn intersect_with_null(values: &[f64], room: &mut [f64]) -> Returned {
     let input = if values.is_empty() { std::ptr::null() } else { values.as_ptr() };
     let output = if room.is_empty() { std::ptr::null_mut() } else { room.as_mut_ptr() };
     unsafe { meskelow_intersect(input, values.len(), output, room.len()) }
+}
+
+#[inline]
+pub fn check(file: &[u8]) -> Verdict {
+    // A true slice, which is all that the interface asks.
+    unsafe { meskelow_check(file.as_ptr(), file.len()) }
+}
+
+pub fn recording(file: &[u8], k: usize) -> Entry {
+    unsafe { meskelow_recording(file.as_ptr(), file.len(), k) }
+}
+
+/// For a file that is lent by pointer, so that nothing is promised about it to the compiler.
+///
+/// # Safety
+/// There are `length` bytes at `start`, or it is NULL and `length` 0.
+pub unsafe fn check_at(start: *const u8, length: usize) -> Verdict {
+    meskelow_check(start, length)
+}
+
+/// # Safety
+/// As for `check_at`.
+pub unsafe fn recording_at(start: *const u8, length: usize, k: usize) -> Entry {
+    meskelow_recording(start, length, k)
 }

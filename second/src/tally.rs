@@ -102,16 +102,30 @@ impl Tally {
     }
 
     pub fn print(&self) {
-        let mut table = "";
-        for row in &self.rows {
-            if row.table != table {
-                table = row.table;
-                println!("{table}");
-            }
-            println!("  {:<50}{:>9}", row.name, row.count);
-        }
+        print_rows(&self.rows);
         println!("combinations of signs and orders: {} of 1375", self.combinations());
     }
+}
+
+pub fn print_rows(rows: &[Row]) {
+    let mut table = "";
+    for row in rows {
+        if row.table != table {
+            table = row.table;
+            println!("{table}");
+        }
+        println!("  {:<50}{:>9}", row.name, row.count);
+    }
+}
+
+/// Whether every row was hit often enough; says which was not.
+pub fn covered(rows: &[Row], enough: usize) -> bool {
+    let mut all = true;
+    for row in rows.iter().filter(|row| row.count < enough) {
+        println!("too few: {} '{}' was hit {} times, {enough} are asked", row.table, row.name, row.count);
+        all = false;
+    }
+    all
 }
 
 fn place_index(place: &Place) -> usize {

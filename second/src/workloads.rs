@@ -1,7 +1,9 @@
-//! Pairs to measure time with, in whole centimetres as a footprint file has them.
+//! Pairs to measure time with, in whole centimetres as a footprint file has them, and such a file.
 
 use crate::case::{point, Pair};
 use crate::classes::ordinary;
+use crate::files::good;
+use crate::footprint::{Verdict, MOST_RECORDINGS};
 use crate::random::Random;
 use crate::triangles::numbers::Point;
 
@@ -10,6 +12,8 @@ type Triangle = [Point; 3];
 
 const SEED: u64 = 77;
 pub const NAMES: [&str; 3] = ["random", "strips", "far"];
+/// The one workload that is not of pairs.
+pub const FILE: &str = "file";
 
 /// None where there is no workload of that name.
 pub fn pairs(name: &str, count: usize) -> Option<Vec<Values>> {
@@ -37,6 +41,19 @@ pub fn unforeseen<T: Copy>(value: T) -> T {
 #[inline]
 pub fn fold(sum: u64, number: u32, n: u32, area: f64) -> u64 {
     sum.rotate_left(7) ^ area.to_bits().wrapping_add(u64::from(number) << 8 | u64::from(n))
+}
+
+#[inline]
+pub fn fold_verdict(sum: u64, verdict: Verdict) -> u64 {
+    // One more for every call: a good file's number and place are zeros.
+    sum.rotate_left(7) ^ (u64::from(verdict.number) << 32 | u64::from(verdict.place)).wrapping_add(1)
+}
+
+/// A good file of the most recordings and then of the most triangles.
+pub fn largest_file() -> Vec<u8> {
+    let recordings = MOST_RECORDINGS as usize;
+    let mut random = Random::new(SEED);
+    good::filled(&mut random, recordings, good::most_triangles(recordings), good::anywhere).bytes()
 }
 
 /// Two small triangles on opposite sides of the tank.
@@ -106,4 +123,16 @@ fn near(u: &Triangle, v: &Triangle) -> bool {
         low(u) <= high(v) + STEP && low(v) <= high(u) + STEP
     };
     close(|p| p.x) && close(|p| p.y)
+}
+
+#[cfg(test)]
+mod tests {
+    use super::*;
+    use crate::footprint::judge;
+
+    #[test]
+    fn the_largest_file_is_good() {
+        let file = largest_file();
+        assert_eq!((file.len(), judge(&file)), (65_532, Verdict::default()));
+    }
 }

@@ -51,5 +51,5 @@ module _ (file : List ℕ) (k : ℕ) where
   pub no-part : {r : Recording} → r ≡ recordingOf file k → (r .number ≡ 0 → ⊥) → [] ≡ partOf file k
   no-part {r} h n = sym (demand r h .noPart n)
 
-  pub part-is : {r : Recording} → Answered r → take (r .first + 24 * r .count - r .first) (drop (r .first) file) ≡ partOf file k
-  part-is {r} a = ap (λ n. take n (drop (r .first) file)) (add-sub-cancel-left (r .first) (24 * r .count)) ∙ a .part
+  pub part-is : {r : Recording} {end : ℕ} → Answered r → end ≡ r .first + 24 * r .count → take (end - r .first) (drop (r .first) file) ≡ partOf file k
+  part-is {r} a e = ap (λ n. take (n - r .first) (drop (r .first) file)) e ∙ (ap (λ n. take n (drop (r .first) file)) (add-sub-cancel-left (r .first) (24 * r .count)) ∙ a .part)

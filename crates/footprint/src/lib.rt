@@ -69,15 +69,37 @@ fn entry_in(file: &[u8], at: usize) -> layout::Entry
     }
 }
 
+// Where entry i stands.
+fn entry_place(table: usize, i: usize) -> usize
+    requires { ⌜ (table ≤ 65536) × (i ≤ 64) ⌝ }
+    ensures { λ r. ⌜ r ≡ table + 12 * i ⌝ }
+{
+    table + 12 * i
+}
+
+// Where the trailer ends that belongs to a table of so many entries; in 64 bits, as in 32 the sum can wrap.
+fn trailer_end(table: u32, count: u32) -> usize
+    ensures { λ r. ⌜ r ≡ table + 12 * count + 12 ⌝ }
+{
+    table as usize + 12 * count as usize + 12
+}
+
+// Where the triangles of a recording end.
+fn part_end(first: u32, count: u32) -> usize
+    ensures { λ r. ⌜ r ≡ first + 24 * count ⌝ }
+{
+    first as usize + 24 * count as usize
+}
+
 // Whether one of the first i entries has this id.
 fn is_seen(file: &[u8], table: usize, i: usize, id: u32) -> bool
-    requires { ⌜ (i ≤ 64) × (table ≡ tablePlace (now file)) × (table + 12 * i ≤ length (now file)) ⌝ }
+    requires { ⌜ (i ≤ 64) × (table ≡ tablePlace (now file)) × (table + 12 * i ≤ length (now file)) × (length (now file) ≤ 65536) ⌝ }
     ensures { λ r. ⌜ r ≡ isSeen id (idsBefore (now (file .entry)) i) ⌝ }
 {
     let mut j = i;
     while 0 < j {
         j = j - 1;
-        if u32_in(file, table + 12 * j) == id {
+        if u32_in(file, entry_place(table, j)) == id {
             return true;
         }
     }
@@ -107,14 +129,14 @@ fn trailer(file: &[u8]) -> layout::Verdict
             place: 0,
         };
     }
-    let count = u32_in(file, n - 8) as usize;
+    let count = u32_in(file, n - 8);
     if 64 < count {
         return layout::Verdict {
             number: 13,
             place: (n - 12) as u32,
         };
     }
-    if u32_in(file, n - 12) as usize + 12 * count + 12 != n {
+    if trailer_end(u32_in(file, n - 12), count) != n {
         return layout::Verdict {
             number: 13,
             place: (n - 12) as u32,
@@ -134,7 +156,7 @@ fn entries(file: &[u8], table: usize, count: usize) -> layout::Verdict
     let mut i: usize = 0;
     let mut end: u32 = 0;
     while i < count {
-        let at = table + 12 * i;
+        let at = entry_place(table, i);
         let e = entry_in(file, at);
         let seen = is_seen(file, table, i, e.id);
         let number = layout::entry_rule(e, end, seen);
@@ -242,7 +264,7 @@ pub fn recording(file: &[u8], k: usize) -> layout::Recording
         return refused(10, 0);
     }
     let table = u32_in(file, n - 12) as usize;
-    let e = entry_in(file, table + 12 * k);
+    let e = entry_in(file, entry_place(table, k));
     layout::Recording {
         number: 0,
         place: 0,
@@ -263,7 +285,7 @@ pub fn part(file: &[u8], k: usize) -> &[u8]
         return &file[0..0];
     }
     let a = r.first as usize;
-    let b = a + 24 * r.count as usize;
+    let b = part_end(r.first, r.count);
     &file[a..b]
 }
 

@@ -7,3 +7,4 @@ pub mod Inside
 pub mod Size
 pub mod Cross
 pub mod Stages
+pub mod Worked

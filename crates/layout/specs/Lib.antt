@@ -7,3 +7,4 @@ pub mod Rows
 pub mod Recordings
 pub mod Promise
 pub mod Inside
+pub mod Worked

@@ -1,14 +1,17 @@
-//! Time a pair, the library and the second program in turn over the same pairs.
+//! Time a pair and time a byte, the library and the second program in turn over the same input.
 
 use std::process::ExitCode;
 use std::time::Instant;
 
+use second::footprint::{self, Entry, Verdict};
 use second::library;
 use second::triangles;
-use second::workloads::{fold, pairs, unforeseen, Values, NAMES};
+use second::workloads::{fold, fold_verdict, largest_file, pairs, unforeseen, Values, FILE, NAMES};
 
 const PAIRS: usize = 2_000;
 const ROUNDS: usize = 600;
+/// How often the file is judged in a round.
+const JUDGEMENTS: usize = 4;
 
 fn main() -> ExitCode {
     println!(
@@ -27,6 +30,14 @@ fn main() -> ExitCode {
         }
         measure(name, &prepared);
     }
+    let file = largest_file();
+    if everything_of(&file, library::check, library::recording)
+        != everything_of(&file, footprint::judge, footprint::recording)
+    {
+        println!("{FILE}: the two programs answer differently");
+        return ExitCode::FAILURE;
+    }
+    measure_file(&file);
     ExitCode::SUCCESS
 }
 
@@ -63,19 +74,17 @@ fn everything(pairs: &[Values], call: fn(&[f64], &mut [f64]) -> Gathered) -> u64
     sum
 }
 
+/// The verdict and all recordings; not timed.
+fn everything_of(
+    file: &[u8],
+    check: fn(&[u8]) -> Verdict,
+    recording: fn(&[u8], usize) -> Entry,
+) -> (Verdict, Vec<Entry>) {
+    (check(file), (0..=64).map(|k| recording(file, k)).collect())
+}
+
 fn measure(name: &str, pairs: &[Values]) {
-    let (mut of_library, mut of_second) = (Vec::new(), Vec::new());
-    for round in 0..ROUNDS {
-        // Whoever goes first finds the caches colder, so they take turns at it.
-        if round % 2 == 0 {
-            of_library.push(time_library(pairs));
-            of_second.push(time_second(pairs));
-        } else {
-            of_second.push(time_second(pairs));
-            of_library.push(time_library(pairs));
-        }
-    }
-    let (library, second) = (least_and_median(of_library), least_and_median(of_second));
+    let (library, second) = in_turn(|| time_library(pairs), || time_second(pairs));
     let meeting = pairs.iter().filter(|values| triangles::intersect(*values, &mut [0.0; 12]).n > 0).count();
     println!(
         "{name:<8} {:>6.1} {:>13.1} {:>9.1} {:>13.1} {:>9.1} {:>7.3} {:>7.3}",
@@ -87,6 +96,40 @@ fn measure(name: &str, pairs: &[Values]) {
         library.0 / second.0,
         library.1 / second.1
     );
+}
+
+fn measure_file(file: &[u8]) {
+    let (library, second) =
+        in_turn(|| time_judging(file, library::check), || time_judging(file, footprint::judge));
+    println!(
+        "{:<8} {:>6} {:>23} {:>23} {:>15}",
+        "", "bytes", "library ns/byte", "second ns/byte", "library/second"
+    );
+    println!(
+        "{FILE:<8} {:>6} {:>13.3} {:>9.3} {:>13.3} {:>9.3} {:>7.3} {:>7.3}",
+        file.len(),
+        library.0,
+        library.1,
+        second.0,
+        second.1,
+        library.0 / second.0,
+        library.1 / second.1
+    );
+}
+
+/// Least and median of each. Whoever goes first finds the caches colder, so they take turns at it.
+fn in_turn(library: impl Fn() -> f64, second: impl Fn() -> f64) -> ((f64, f64), (f64, f64)) {
+    let (mut of_library, mut of_second) = (Vec::new(), Vec::new());
+    for round in 0..ROUNDS {
+        if round % 2 == 0 {
+            of_library.push(library());
+            of_second.push(second());
+        } else {
+            of_second.push(second());
+            of_library.push(library());
+        }
+    }
+    (least_and_median(of_library), least_and_median(of_second))
 }
 
 fn time_library(pairs: &[Values]) -> f64 {
@@ -111,6 +154,17 @@ fn time_second(pairs: &[Values]) -> f64 {
     }
     unforeseen(sum);
     begin.elapsed().as_nanos() as f64 / pairs.len() as f64
+}
+
+/// Called by pointer on both sides, once for thousands of bytes.
+fn time_judging(file: &[u8], check: fn(&[u8]) -> Verdict) -> f64 {
+    let begin = Instant::now();
+    let mut sum = 0;
+    for _ in 0..JUDGEMENTS {
+        sum = fold_verdict(sum, check(unforeseen(file)));
+    }
+    unforeseen(sum);
+    begin.elapsed().as_nanos() as f64 / (JUDGEMENTS * file.len()) as f64
 }
 
 fn least_and_median(mut times: Vec<f64>) -> (f64, f64) {

@@ -8,7 +8,7 @@ use second::coverage::Coverage;
 use second::lent::{same_bits, Lent};
 use second::library::{self, Returned};
 use second::random::Random;
-use second::tally::Tally;
+use second::tally::{covered, Tally};
 use second::triangles::{intersect_traced, Answer};
 
 const SEED: u64 = 20_011_946;
@@ -40,7 +40,7 @@ fn main() -> ExitCode {
         tally.count(class, &coverage);
     }
     tally.print();
-    if pairs >= COVERING && !covered(&tally) {
+    if pairs >= COVERING && !covered(&tally.rows, ENOUGH) {
         return ExitCode::FAILURE;
     }
     println!("compared {pairs} pairs: no difference");
@@ -59,18 +59,6 @@ fn arguments() -> Result<(u64, u64), String> {
         }
     }
     Ok((seed, pairs))
-}
-
-fn covered(tally: &Tally) -> bool {
-    let mut all = true;
-    for row in tally.rows.iter().filter(|row| row.count < ENOUGH) {
-        println!(
-            "too few pairs: {} '{}' was hit {} times, {ENOUGH} are asked",
-            row.table, row.name, row.count
-        );
-        all = false;
-    }
-    all
 }
 
 /// Both programs on copies of the case; the error is a report of everything that differs.

@@ -2,9 +2,10 @@
 
 use std::process::ExitCode;
 
+use second::footprint::{judge, Verdict};
 use second::library;
 use second::triangles;
-use second::workloads::{fold, pairs, unforeseen, Values};
+use second::workloads::{fold, fold_verdict, largest_file, pairs, unforeseen, Values, FILE};
 
 fn main() -> ExitCode {
     match checksum() {
@@ -13,7 +14,7 @@ fn main() -> ExitCode {
             ExitCode::SUCCESS
         }
         None => {
-            eprintln!("usage: loop library|second random|strips|far PAIRS ROUNDS");
+            eprintln!("usage: loop library|second random|strips|far|file COUNT ROUNDS");
             ExitCode::from(2)
         }
     }
@@ -25,14 +26,28 @@ fn checksum() -> Option<u64> {
         [side, workload, count, rounds] => (side, workload, count, rounds),
         _ => return None,
     };
-    let prepared = pairs(workload, count.parse().ok()?)?;
+    let (count, rounds): (usize, usize) = (count.parse().ok()?, rounds.parse().ok()?);
+    if workload == FILE {
+        return judgements(side, count * rounds);
+    }
+    let prepared = pairs(workload, count)?;
     let round = match side.as_str() {
         "library" => library_round,
         "second" => second_round,
         _ => return None,
     };
-    let rounds: usize = rounds.parse().ok()?;
     Some((0..rounds).fold(0, |sum, _| round(sum, &prepared)))
+}
+
+/// The same file again and again.
+fn judgements(side: &str, count: usize) -> Option<u64> {
+    let file = largest_file();
+    let check: fn(&[u8]) -> Verdict = match side {
+        "library" => library::check,
+        "second" => judge,
+        _ => return None,
+    };
+    Some((0..count).fold(0, |sum, _| fold_verdict(sum, check(unforeseen(&file)))))
 }
 
 fn library_round(mut sum: u64, pairs: &[Values]) -> u64 {

@@ -1,8 +1,9 @@
 use native.Mathlib.Omega.{arith}
 use Prim.Native.Nat.{_≤_}
-use mathlib.Core.Path.{_≡_, sym, _∙_}
+use mathlib.Core.Path.{_≡_, sym, ap, _∙_}
 use denote.Ref.{now}
 use borrow.Author.Needs.{needs}
+use Rattle.layout.specs.Bytes.{u32At}
 use Rattle.layout.specs.Rules.{isSeen}
 use Rattle.layout.specs.Verdict.{idsBefore}
 use Rattle.footprint.proofs.Table.{seen-here, seen-before, seen-none}
@@ -10,6 +11,7 @@ use Rattle.footprint.proofs.is_seen.Statement.{statement}
 use Rattle.footprint.proofs.is_seen.Tie as tie
 use Rattle.footprint.proofs.is_seen.Reads as reads
 use Rattle.footprint.proofs.is_seen.Lts as lts
+use Rattle.footprint.proofs.entry_place.Reads as entry-place-reads
 use Rattle.footprint.proofs.u32_in.Reads as u32-in-reads
 
 abbrev Inv-loop : tie.InvT-loop
@@ -18,45 +20,45 @@ Inv-loop file table i id j₀ j = (j ≤ i) × (isSeen id (idsBefore file i) ≡
 abbrev μ-loop : tie.MeasureT-loop
 μ-loop file table i id j₀ j = j
 
--- src/lib.rt:72:5
+-- src/lib.rt:100:5
 loop-holds : tie.Need-loop-holds Inv-loop μ-loop
 loop-holds c = search needs
 
--- src/lib.rt:73:13
+-- src/lib.rt:101:13
 sub-j : tie.Need-sub-j Inv-loop μ-loop
 sub-j c = search needs
 
--- src/lib.rt:74:33
-mul-u32-in : tie.Need-mul-u32-in Inv-loop μ-loop
-mul-u32-in c = search needs
+-- src/lib.rt:102:25
+entry-place-requires : tie.Need-entry-place-requires Inv-loop μ-loop
+entry-place-requires c κs = search needs
 
--- src/lib.rt:74:25
-add-u32-in : tie.Need-add-u32-in Inv-loop μ-loop
-add-u32-in c = search needs
-
--- src/lib.rt:74:12
+-- src/lib.rt:102:12
 u32-in-requires : tie.Need-u32-in-requires Inv-loop μ-loop
 u32-in-requires c κs = search needs
 
--- src/lib.rt:75:13
+-- src/lib.rt:103:13
 returns : tie.Need-returns Inv-loop μ-loop
 returns c =
-    let l = c .before .before .before .loop in
-    let b = c .before .before .before .before .before in
-    seen-here (now (b .args .file)) (b .pre .1) (l .j) (b .args .id) (c .before .before .loop-test .taken) (c .before .u32-in .ensures) (c .if1 .taken) ∙ sym (l .inv .1)
+    let p = c .before .before in
+    let l = p .before .before .loop in
+    let b = p .before .before .before .before in
+    let file = now (b .args .file) in
+    seen-here file (b .pre .1) (l .j) (b .args .id) (p .before .loop-test .taken) (c .before .u32-in .ensures ∙ ap (u32At file) (p .entry-place .ensures)) (c .if1 .taken) ∙ sym (l .inv .1)
 
--- src/lib.rt:72:5
+-- src/lib.rt:100:5
 loop-less : tie.Need-loop-less Inv-loop μ-loop
 loop-less c = search needs
 
--- src/lib.rt:72:5
+-- src/lib.rt:100:5
 loop-again : tie.Need-loop-again Inv-loop μ-loop
 loop-again c =
-    let l = c .before .before .before .loop in
-    let b = c .before .before .before .before .before in
-    (omega arith, l .inv .1 ∙ seen-before (now (b .args .file)) (b .pre .1) (l .j) (b .args .id) (c .before .before .loop-test .taken) (c .before .u32-in .ensures) (c .if1 .left))
+    let p = c .before .before in
+    let l = p .before .before .loop in
+    let b = p .before .before .before .before in
+    let file = now (b .args .file) in
+    (omega arith, l .inv .1 ∙ seen-before file (b .pre .1) (l .j) (b .args .id) (p .before .loop-test .taken) (c .before .u32-in .ensures ∙ ap (u32At file) (p .entry-place .ensures)) (c .if1 .left))
 
--- src/lib.rt:67:1
+-- src/lib.rt:95:1
 returns-2 : tie.Need-returns-2 Inv-loop μ-loop
 returns-2 c = let l = c .before .loop in seen-none _ (l .j) _ (c .loop-test .left) ∙ sym (l .inv .1)
 
@@ -68,8 +70,7 @@ is-seen-spec =
     μ-loop
     loop-holds
     sub-j
-    mul-u32-in
-    add-u32-in
+    entry-place-requires
     u32-in-requires
     returns
     loop-less

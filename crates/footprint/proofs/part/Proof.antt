@@ -1,67 +1,60 @@
+use borrow.Author.Needs.{needs}
 use native.Mathlib.Omega.{arith}
 use denote.Ref.{now}
 use Rattle.footprint.proofs.Recorded.{Answered, answered-of, no-part, part-is}
-use borrow.Author.Needs.{needs}
 use Rattle.footprint.proofs.part.Statement.{statement}
 use Rattle.footprint.proofs.part.Tie as tie
 use Rattle.footprint.proofs.part.Reads as reads
 use Rattle.footprint.proofs.part.Lts as lts
+use Rattle.footprint.proofs.part_end.Reads as part-end-reads
 use Rattle.footprint.proofs.recording.Reads as recording-reads
 
 told : (c : tie.Else1) → Answered (now (c .before .before .before .before .args .file)) (c .before .before .before .before .args .k) (c .before .before .recording .result)
 told c = answered-of _ _ (c .before .before .recording .ensures) (c .if1 .left)
 
--- src/lib.rt:261:9
+-- src/lib.rt:283:9
 recording-requires : tie.Need-recording-requires
 recording-requires c κs = search needs
 
--- src/lib.rt:263:16
+-- src/lib.rt:285:16
 sub-result : tie.Need-sub-result
 sub-result c = search needs
 
--- src/lib.rt:263:16
+-- src/lib.rt:285:16
 part-result-start : tie.Need-part-result-start
 part-result-start c = search needs
 
--- src/lib.rt:263:16
+-- src/lib.rt:285:16
 part-result-end : tie.Need-part-result-end
 part-result-end c = search needs
 
--- src/lib.rt:263:9
+-- src/lib.rt:285:9
 returns : tie.Need-returns
 returns c = no-part _ _ (c .before .before .before .recording .ensures) (c .before .if1 .taken)
 
--- src/lib.rt:265:13
+-- src/lib.rt:287:13
 cast-a : tie.Need-cast-a
 cast-a c = search needs
 
--- src/lib.rt:266:22
-cast-b : tie.Need-cast-b
-cast-b c = search needs
+-- src/lib.rt:288:9
+part-end-requires : tie.Need-part-end-requires
+part-end-requires c κs = search needs
 
--- src/lib.rt:266:17
-mul-b : tie.Need-mul-b
-mul-b c = search needs
-
--- src/lib.rt:266:13
-add-b : tie.Need-add-b
-add-b c = search needs
-
--- src/lib.rt:267:5
+-- src/lib.rt:289:5
 sub-result-2 : tie.Need-sub-result-2
 sub-result-2 c = search needs
 
--- src/lib.rt:267:5
+-- src/lib.rt:289:5
 part-result-start-2 : tie.Need-part-result-start-2
 part-result-start-2 c = search needs
 
--- src/lib.rt:267:5
+-- src/lib.rt:289:5
 part-result-end-2 : tie.Need-part-result-end-2
-part-result-end-2 c = let t = told (c .before .before) in omega (arith, t .inFile)
+part-result-end-2 c = let t = told (c .before .before) in omega (arith, t .inFile, c .part-end .ensures)
 
--- src/lib.rt:258:1
+-- src/lib.rt:280:1
 returns-2 : tie.Need-returns-2
-returns-2 c = part-is _ _ (told (c .before .before .before))
+returns-2 c = part-is _ _ (told (c .before .before .before)) (c .before .part-end .ensures)
 
 pub part-spec : {M : Type 1} → statement M
 part-spec =
@@ -73,9 +66,7 @@ part-spec =
     part-result-end
     returns
     cast-a
-    cast-b
-    mul-b
-    add-b
+    part-end-requires
     sub-result-2
     part-result-start-2
     part-result-end-2

@@ -6,89 +6,74 @@ use Rattle.footprint.proofs.trailer.Statement.{statement}
 use Rattle.footprint.proofs.trailer.Tie as tie
 use Rattle.footprint.proofs.trailer.Reads as reads
 use Rattle.footprint.proofs.trailer.Lts as lts
+use Rattle.footprint.proofs.trailer_end.Reads as trailer-end-reads
 use Rattle.footprint.proofs.u32_in.Reads as u32-in-reads
 
--- src/lib.rt:93:9
+-- src/lib.rt:115:9
 returns : tie.Need-returns
 unfolding firstOf test placeOf storedLength countOf tablePlace
 returns c = simp (lt-ltb _ _ (c .if1 .taken))
 
--- src/lib.rt:99:9
+-- src/lib.rt:121:9
 returns-2 : tie.Need-returns-2
 unfolding firstOf test placeOf storedLength countOf tablePlace
 returns-2 c = simp (le-ltb _ _ (c .before .if1 .left), lt-ltb _ _ (c .if2 .taken))
 
--- src/lib.rt:104:21
+-- src/lib.rt:126:21
 sub-u32-in : tie.Need-sub-u32-in
 sub-u32-in c = search needs
 
--- src/lib.rt:104:8
+-- src/lib.rt:126:8
 u32-in-requires : tie.Need-u32-in-requires
 u32-in-requires c κs = search needs
 
--- src/lib.rt:104:8
+-- src/lib.rt:126:8
 cast-if3 : tie.Need-cast-if3
 cast-if3 c = search needs
 
--- src/lib.rt:105:9
+-- src/lib.rt:127:9
 returns-3 : tie.Need-returns-3
 unfolding firstOf test placeOf storedLength countOf tablePlace
 returns-3 c = let d = c .before .before in simp (le-ltb _ _ (d .before .if1 .left), le-ltb _ _ (d .if2 .left), ← c .before .u32-in .ensures, ne-eqb _ _ (c .if3 .taken))
 
--- src/lib.rt:110:30
+-- src/lib.rt:132:30
 sub-u32-in-2 : tie.Need-sub-u32-in-2
 sub-u32-in-2 c = search needs
 
--- src/lib.rt:110:17
+-- src/lib.rt:132:9
 u32-in-requires-2 : tie.Need-u32-in-requires-2
 u32-in-requires-2 c κs = search needs
 
--- src/lib.rt:110:17
-cast-count : tie.Need-cast-count
-cast-count c = search needs
-
--- src/lib.rt:114:20
+-- src/lib.rt:136:20
 cast-t9 : tie.Need-cast-t9
 cast-t9 c = search needs
 
--- src/lib.rt:112:9
+-- src/lib.rt:134:9
 returns-4 : tie.Need-returns-4
 unfolding firstOf test placeOf storedLength countOf tablePlace
 returns-4 c = let e = c .before .before in let d = e .before .before in simp (le-ltb _ _ (d .before .if1 .left), le-ltb _ _ (d .if2 .left), ← e .before .u32-in .ensures, eq-eqb _ _ (e .if3 .left), ← c .before .u32-in2 .ensures, lt-ltb _ _ (c .if4 .taken))
 
--- src/lib.rt:117:8
+-- src/lib.rt:139:20
 u32-in-requires-3 : tie.Need-u32-in-requires-3
 u32-in-requires-3 c κs = search needs
 
--- src/lib.rt:117:8
-cast-if5 : tie.Need-cast-if5
-cast-if5 c = search needs
+-- src/lib.rt:139:8
+trailer-end-requires : tie.Need-trailer-end-requires
+trailer-end-requires c κs = search needs
 
--- src/lib.rt:117:40
-mul-if5 : tie.Need-mul-if5
-mul-if5 c = search needs
+-- src/lib.rt:142:20
+cast-t11 : tie.Need-cast-t11
+cast-t11 c = search needs
 
--- src/lib.rt:117:8
-add-if5 : tie.Need-add-if5
-add-if5 c = search needs
-
--- src/lib.rt:117:8
-add-if5-2 : tie.Need-add-if5-2
-add-if5-2 c = search needs
-
--- src/lib.rt:120:20
-cast-t14 : tie.Need-cast-t14
-cast-t14 c = search needs
-
--- src/lib.rt:118:9
+-- src/lib.rt:140:9
 returns-5 : tie.Need-returns-5
 unfolding firstOf test placeOf storedLength countOf tablePlace
-returns-5 c = let f = c .before .before in let e = f .before .before in let d = e .before .before in simp (le-ltb _ _ (d .before .if1 .left), le-ltb _ _ (d .if2 .left), ← e .before .u32-in .ensures, eq-eqb _ _ (e .if3 .left), ← f .before .u32-in2 .ensures, le-ltb _ _ (f .if4 .left), ← c .before .u32-in3 .ensures, ne-eqb _ _ (c .if5 .taken))
+returns-5 c = let f = c .before .before .before in let e = f .before .before in let d = e .before .before in simp (le-ltb _ _ (d .before .if1 .left), le-ltb _ _ (d .if2 .left), ← e .before .u32-in .ensures, eq-eqb _ _ (e .if3 .left), ← f .before .u32-in2 .ensures, le-ltb _ _ (f .if4 .left), ← c .before .before .u32-in3 .ensures, ← c .before .trailer-end .ensures, ne-eqb _ _ (c .if5 .taken))
 
--- src/lib.rt:88:1
+-- src/lib.rt:110:1
 returns-6 : tie.Need-returns-6
 unfolding firstOf test placeOf storedLength countOf tablePlace
-returns-6 c = let f = c .before .before in let e = f .before .before in let d = e .before .before in simp (le-ltb _ _ (d .before .if1 .left), le-ltb _ _ (d .if2 .left), ← e .before .u32-in .ensures, eq-eqb _ _ (e .if3 .left), ← f .before .u32-in2 .ensures, le-ltb _ _ (f .if4 .left), ← c .before .u32-in3 .ensures, eq-eqb _ _ (c .if5 .left))
+returns-6 c = let f = c .before .before .before in let e = f .before .before in let d = e .before .before in simp (le-ltb _ _ (d .before .if1 .left), le-ltb _ _ (d .if2 .left), ← e .before .u32-in .ensures, eq-eqb _ _ (e .if3 .left), ← f .before .u32-in2 .ensures, le-ltb _ _ (f .if4 .left), ← c .before .before .u32-in3 .ensures, ← c .before .trailer-end .ensures, eq-eqb _ _ (c .if5 .left))
 
 pub trailer-spec : {M : Type 1} → statement M
 trailer-spec =
@@ -102,14 +87,10 @@ trailer-spec =
     returns-3
     sub-u32-in-2
     u32-in-requires-2
-    cast-count
     cast-t9
     returns-4
     u32-in-requires-3
-    cast-if5
-    mul-if5
-    add-if5
-    add-if5-2
-    cast-t14
+    trailer-end-requires
+    cast-t11
     returns-5
     returns-6)

@@ -1,0 +1,113 @@
+//! Memory to lend a file from, between pages that nobody may touch.
+
+use std::os::raw::{c_int, c_void};
+
+use crate::random::Random;
+
+/// Enough for the longest file of a comparison. All sizes here suit any size of a page.
+const ROOM: usize = 1 << 20;
+const WALL: usize = 1 << 16;
+/// How many bytes on either side of the file are looked at, as far as there are any.
+const GUARD: usize = 64;
+
+extern "C" {
+    fn mmap(at: *mut c_void, length: usize, rights: c_int, flags: c_int, of: c_int, from: i64)
+        -> *mut c_void;
+    fn mprotect(at: *mut c_void, length: usize, rights: c_int) -> c_int;
+}
+
+const READ_AND_WRITE: c_int = 3;
+/// Private, of no file, and with nothing set aside for it before it is touched.
+const FLAGS: c_int = 0x4022;
+
+/// Pages of zeros; no rights at all to any of them but those between the walls.
+fn walled(length: usize) -> *mut u8 {
+    // A new mapping at a place of the system's choice, of which only the inside is opened.
+    unsafe {
+        let start = mmap(std::ptr::null_mut(), length + 2 * WALL, 0, FLAGS, -1, 0);
+        assert!(start as isize != -1, "the system gives no memory");
+        let inside = start.cast::<u8>().add(WALL);
+        assert!(mprotect(inside.cast(), length, READ_AND_WRITE) == 0, "the system opens no memory");
+        inside
+    }
+}
+
+/// Kept for the whole run.
+pub struct Pages {
+    start: *mut u8,
+}
+
+/// A file lent by pointer, as a C program would.
+pub struct Lent<'a> {
+    pub start: *const u8,
+    area: &'a Pages,
+    place: usize,
+    length: usize,
+}
+
+impl Default for Pages {
+    fn default() -> Self {
+        Pages { start: walled(ROOM) }
+    }
+}
+
+impl Pages {
+    /// Against the wall behind it or the one before it, or between guards at any address.
+    pub fn lend(&mut self, file: &[u8], random: &mut Random) -> Lent<'_> {
+        assert!(file.len() + 4 * GUARD <= ROOM);
+        let place = match random.below(4) {
+            0 | 1 => ROOM - file.len(),
+            2 => 0,
+            _ => GUARD + random.below(GUARD),
+        };
+        let lent = Lent { start: self.start.wrapping_add(place), area: self, place, length: file.len() };
+        let (from, to) = lent.guarded();
+        // The room is this object's own, and no slice of it is alive.
+        let around = unsafe { std::slice::from_raw_parts_mut(lent.area.start.add(from), to - from) };
+        for (k, byte) in around.iter_mut().enumerate() {
+            *byte = guard(from + k);
+        }
+        around[place - from..][..file.len()].copy_from_slice(file);
+        lent
+    }
+}
+
+impl Lent<'_> {
+    /// From where to where there are guards, the file between them.
+    fn guarded(&self) -> (usize, usize) {
+        (self.place.saturating_sub(GUARD), (self.place + self.length + GUARD).min(ROOM))
+    }
+
+    fn bytes(&self, from: usize, to: usize) -> &[u8] {
+        // As in `lend`; whoever was lent the file is done with it.
+        unsafe { std::slice::from_raw_parts(self.area.start.add(from), to - from) }
+    }
+
+    pub fn holds(&self, file: &[u8]) -> bool {
+        self.bytes(self.place, self.place + self.length) == file
+    }
+
+    pub fn has_its_guards(&self) -> bool {
+        let (from, to) = self.guarded();
+        let end = self.place + self.length;
+        let as_made = |from, to| self.bytes(from, to).iter().zip(from..).all(|(byte, k)| *byte == guard(k));
+        as_made(from, self.place) && as_made(end, to)
+    }
+}
+
+/// No two neighbours alike, and no zeros.
+fn guard(place: usize) -> u8 {
+    (place % 251) as u8 + 1
+}
+
+/// A file of more bytes than 32 bits can count, `front` and then zeros. It takes no memory but
+/// what is touched of it.
+pub fn endless(front: &[u8]) -> &'static [u8] {
+    let length = (1u64 << 32) as usize + front.len();
+    let start = walled(length + WALL - length % WALL);
+    // The mapping is never given back.
+    unsafe {
+        std::ptr::copy_nonoverlapping(front.as_ptr(), start, front.len());
+        std::slice::from_raw_parts(start, length)
+    }
+}
