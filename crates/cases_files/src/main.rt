@@ -37,7 +37,7 @@ fn fed(line: Line, b: u8) -> Line {
         return next;
     }
     if line.begun {
-        if digits < 4096 {
+        if digits < 8192 {
             next.digits = digits + 1;
         }
         return next;
@@ -142,7 +142,7 @@ fn byte_of(text: &[u8], i: usize) -> u8 {
 
 fn main() {
     let mut text = [0u8; 131072];
-    let mut file = [0u8; 2048];
+    let mut file = [0u8; 4096];
     let n = io::read_full(0, &mut text);
     let mut line = begin();
     let mut i = 0;

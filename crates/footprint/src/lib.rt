@@ -6,7 +6,7 @@ ghost use lib.ListN.{length};
 ghost use Rattle.layout.specs.Bytes.{two as twoOf, four as fourOf, byteAt, u16At, u32At, i32At};
 ghost use Rattle.layout.specs.Parts.{entryFrom, entryPlace, tablePlace, countOf, triangleFrom};
 ghost use Rattle.layout.specs.Rules.{isSeen, triangleRule};
-ghost use Rattle.layout.specs.Verdict.{idsBefore, firstOf, said};
+ghost use Rattle.layout.specs.Verdict.{idsBefore, firstOf, said, good};
 ghost use Rattle.layout.specs.Recordings.{refused as refusedAs, f64At};
 ghost use Rattle.layout.specs.Promise.{Checked, Recorded, Parted};
 ghost use Rattle.layout.proofs.Stages.{trailerRows, tableRows, triangleRows};
@@ -106,46 +106,47 @@ fn is_seen(file: &[u8], table: usize, i: usize, id: u32) -> bool
     false
 }
 
+fn refusal(found: u32, place: usize) -> layout::Verdict
+    requires { ⌜ place ≤ 65536 ⌝ }
+    ensures { λ r. ⌜ r ≡ said found place ⌝ }
+{
+    layout::Verdict {
+        number: found,
+        place: place as u32,
+    }
+}
+
+fn acceptance() -> layout::Verdict
+    ensures { λ r. ⌜ r ≡ good ⌝ }
+{
+    layout::Verdict {
+        number: 0,
+        place: 0,
+    }
+}
+
 // Refusals 11, 12 and 13.
 fn trailer(file: &[u8]) -> layout::Verdict
     ensures { λ r. ⌜ r ≡ firstOf (now (file .entry)) (trailerRows (now (file .entry))) ⌝ }
 {
     let n = file.len();
     if n < 12 {
-        return layout::Verdict {
-            number: 11,
-            place: 0,
-        };
+        return refusal(11, 0);
     }
     if 65536 < n {
-        return layout::Verdict {
-            number: 11,
-            place: 0,
-        };
+        return refusal(11, 0);
     }
     if u32_in(file, n - 4) as usize != n {
-        return layout::Verdict {
-            number: 12,
-            place: 0,
-        };
+        return refusal(12, 0);
     }
     let count = u32_in(file, n - 8);
     if 64 < count {
-        return layout::Verdict {
-            number: 13,
-            place: (n - 12) as u32,
-        };
+        return refusal(13, n - 12);
     }
     if trailer_end(u32_in(file, n - 12), count) != n {
-        return layout::Verdict {
-            number: 13,
-            place: (n - 12) as u32,
-        };
+        return refusal(13, n - 12);
     }
-    layout::Verdict {
-        number: 0,
-        place: 0,
-    }
+    acceptance()
 }
 
 // Refusals 14 and 16 of each entry in turn, then 15.
@@ -161,24 +162,15 @@ fn entries(file: &[u8], table: usize, count: usize) -> layout::Verdict
         let seen = is_seen(file, table, i, e.id);
         let number = layout::entry_rule(e, end, seen);
         if number != 0 {
-            return layout::Verdict {
-                number,
-                place: at as u32,
-            };
+            return refusal(number, at);
         }
         end = end + 24 * e.count;
         i = i + 1;
     }
     if end as usize != table {
-        return layout::Verdict {
-            number: 15,
-            place: table as u32,
-        };
+        return refusal(15, table);
     }
-    layout::Verdict {
-        number: 0,
-        place: 0,
-    }
+    acceptance()
 }
 
 // The number of the triangle at a place: 17, 18 or 0.
@@ -203,20 +195,14 @@ fn triangles(file: &[u8], table: usize) -> layout::Verdict
     let n = table / 24;
     let mut k: usize = 0;
     while k < n {
-        let at = 24 * k;
-        let number = triangle_in(file, at);
+        let place = 24 * k;
+        let number = triangle_in(file, place);
         if number != 0 {
-            return layout::Verdict {
-                number,
-                place: at as u32,
-            };
+            return refusal(number, place);
         }
         k = k + 1;
     }
-    layout::Verdict {
-        number: 0,
-        place: 0,
-    }
+    acceptance()
 }
 
 // What is said of a file: 0 at 0 if it is good, else the refusal of its first row that applies, at that row's place.

@@ -1,15 +1,16 @@
 -- The cross of a triangle in range, as 64-bit numbers compute it, is exact: differences stay within 2,000,000, products within 4·10^12. Assumes nothing.
 use Prim.Native.Nat.{ℕ, _≤_}
 use mathlib.Core.Path.{_≡_, refl, sym, ap, ap₂, _∙_}
-use mathlib.Core.Bool.{Bool, false}
+use mathlib.Core.Bool.{Bool, true, false, _||_, false≢true}
 use lib.Dec.{lit<, eqb}
 use lib.IntN.{ℤ, natAbs, _-ℤ_, _*ℤ_}
 use mir.Val.{SFits, ofZ, toZ}
 use mir.ValLaws.{toZ-ofZ}
 use mir.Syntax.{w32, w64}
+use Rattle.floats.specs.Lists.{any}
 use Rattle.floats.specs.Whole.{isNought}
-use Rattle.layout.specs.Parts.{triangleOf}
-use Rattle.layout.specs.Rules.{isFar}
+use Rattle.layout.specs.Parts.{Triangle, triangleOf}
+use Rattle.layout.specs.Rules.{isFar, isOutOfRange}
 use Rattle.layout.proofs.Size.{minus-le, times-le, holds, wider, zero-bits, near}
 
 -- a coordinate in range, held by 32 bits
@@ -75,3 +76,24 @@ near-back z h e = rw (back z h) (near z e)
 pub same-triangle : {x0 y0 x1 y1 x2 y2 : ℤ} → SFits w32 x0 → SFits w32 y0 → SFits w32 x1 → SFits w32 y1 → SFits w32 x2 → SFits w32 y2
     → triangleOf (toZ w32 (ofZ w32 x0)) (toZ w32 (ofZ w32 y0)) (toZ w32 (ofZ w32 x1)) (toZ w32 (ofZ w32 y1)) (toZ w32 (ofZ w32 x2)) (toZ w32 (ofZ w32 y2)) ≡ triangleOf x0 y0 x1 y1 x2 y2
 same-triangle {x0} {y0} {x1} {y1} {x2} {y2} h0 h1 h2 h3 h4 h5 = rw (back x0 h0, back y0 h1, back x1 h2, back y1 h3, back x2 h4, back y2 h5) refl
+
+-- what a call is told of a triangle that it is handed number by number
+pub of-triangle : (f : Triangle → Bool) {x0 y0 x1 y1 x2 y2 : ℤ} {r : Bool} (b : Bool) → SFits w32 x0 → SFits w32 y0 → SFits w32 x1 → SFits w32 y1 → SFits w32 x2 → SFits w32 y2
+    → r ≡ f (triangleOf (toZ w32 (ofZ w32 x0)) (toZ w32 (ofZ w32 y0)) (toZ w32 (ofZ w32 x1)) (toZ w32 (ofZ w32 y1)) (toZ w32 (ofZ w32 x2)) (toZ w32 (ofZ w32 y2))) → r ≡ b → f (triangleOf x0 y0 x1 y1 x2 y2) ≡ b
+of-triangle f b h0 h1 h2 h3 h4 h5 p q = sym (ap f (same-triangle h0 h1 h2 h3 h4 h5)) ∙ (sym p ∙ q)
+
+-- of a triangle in range no number is far
+neither : (a b : Bool) → (a || b) ≡ false → (a ≡ false) × (b ≡ false)
+neither true b h = absurd (false≢true (sym h))
+neither false b h = (refl, h)
+
+pub none-far : (x0 y0 x1 y1 x2 y2 : ℤ) → isOutOfRange (triangleOf x0 y0 x1 y1 x2 y2) ≡ false → (isFar x0 ≡ false) × (isFar y0 ≡ false) × (isFar x1 ≡ false) × (isFar y1 ≡ false) × (isFar x2 ≡ false) × (isFar y2 ≡ false)
+unfolding isOutOfRange any
+none-far x0 y0 x1 y1 x2 y2 h =
+    let a = neither (isFar x0) _ h in
+    let b = neither (isFar y0) _ (a .1) in
+    let c = neither (isFar x1) _ (b .1) in
+    let d = neither (isFar y1) _ (c .1) in
+    let e = neither (isFar x2) _ (d .1) in
+    let f = neither (isFar y2) _ (e .1) in
+    (a .0, b .0, c .0, d .0, e .0, f .0)

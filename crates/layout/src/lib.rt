@@ -4,7 +4,7 @@ ghost use Prim.Native.Nat.{_≤_};
 ghost use lib.IntN.{natAbs};
 ghost use Rattle.layout.specs.Bytes.{signed as signedOf};
 ghost use Rattle.layout.specs.Parts.{triangleOf};
-ghost use Rattle.layout.specs.Rules.{isFar, isFlat, entryRule, triangleRule};
+ghost use Rattle.layout.specs.Rules.{isFar, isOutOfRange, isFlat, entryRule, triangleRule};
 
 // What is said of a file: number 0 and place 0 if it is good, else the refusal's number and the place where it was found.
 #[repr(C)]
@@ -54,6 +54,28 @@ fn is_far(z: i32) -> bool
     1000000 < z
 }
 
+// Whether one of a triangle's six numbers is out of range.
+fn is_out_of_range(x0: i32, y0: i32, x1: i32, y1: i32, x2: i32, y2: i32) -> bool
+    ensures { λ r. ⌜ r ≡ isOutOfRange (triangleOf x0 y0 x1 y1 x2 y2) ⌝ }
+{
+    if is_far(x0) {
+        return true;
+    }
+    if is_far(y0) {
+        return true;
+    }
+    if is_far(x1) {
+        return true;
+    }
+    if is_far(y1) {
+        return true;
+    }
+    if is_far(x2) {
+        return true;
+    }
+    is_far(y2)
+}
+
 // Twice the area as the cross of two differences, which a triangle in range cannot overflow.
 fn is_flat(x0: i32, y0: i32, x1: i32, y1: i32, x2: i32, y2: i32) -> bool
     requires { ⌜ (natAbs x0 ≤ 1000000) × (natAbs y0 ≤ 1000000) × (natAbs x1 ≤ 1000000) × (natAbs y1 ≤ 1000000) × (natAbs x2 ≤ 1000000) × (natAbs y2 ≤ 1000000) ⌝ }
@@ -70,22 +92,7 @@ fn is_flat(x0: i32, y0: i32, x1: i32, y1: i32, x2: i32, y2: i32) -> bool
 pub fn triangle_rule(x0: i32, y0: i32, x1: i32, y1: i32, x2: i32, y2: i32) -> u32
     ensures { λ r. ⌜ r ≡ triangleRule (triangleOf x0 y0 x1 y1 x2 y2) ⌝ }
 {
-    if is_far(x0) {
-        return 17;
-    }
-    if is_far(y0) {
-        return 17;
-    }
-    if is_far(x1) {
-        return 17;
-    }
-    if is_far(y1) {
-        return 17;
-    }
-    if is_far(x2) {
-        return 17;
-    }
-    if is_far(y2) {
+    if is_out_of_range(x0, y0, x1, y1, x2, y2) {
         return 17;
     }
     if is_flat(x0, y0, x1, y1, x2, y2) {

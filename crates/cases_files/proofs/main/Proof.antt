@@ -13,7 +13,7 @@ use Rattle.cases_files.proofs.turn.Reads as turn-reads
 use Rattle.io.proofs.read_full.Reads as read-full-reads
 
 abbrev Inv-loop : tie.InvT-loop
-Inv-loop text file₀ n line₀ i₀ file line i = (i ≤ n) × (length text ≡ 131072) × (length file ≡ 2048)
+Inv-loop text file₀ n line₀ i₀ file line i = (i ≤ n) × (length text ≡ 131072) × (length file ≡ 4096)
 
 abbrev μ-loop : tie.MeasureT-loop
 μ-loop text file₀ n line₀ i₀ file line i = n - i

@@ -12,9 +12,11 @@ use Rattle.footprint.proofs.entries.Statement.{statement}
 use Rattle.footprint.proofs.entries.Tie as tie
 use Rattle.footprint.proofs.entries.Reads as reads
 use Rattle.footprint.proofs.entries.Lts as lts
+use Rattle.footprint.proofs.acceptance.Reads as acceptance-reads
 use Rattle.footprint.proofs.entry_in.Reads as entry-in-reads
 use Rattle.footprint.proofs.entry_place.Reads as entry-place-reads
 use Rattle.footprint.proofs.is_seen.Reads as is-seen-reads
+use Rattle.footprint.proofs.refusal.Reads as refusal-reads
 use Rattle.layout.proofs.entry_rule.Reads as entry-rule-reads
 
 abbrev Inv-loop : tie.InvT-loop
@@ -23,58 +25,59 @@ Inv-loop file table count i₀ end₀ i end = (i ≤ count) × (end ≤ 1572840 
 abbrev μ-loop : tie.MeasureT-loop
 μ-loop file table count i₀ end₀ i end = count - i
 
--- src/lib.rt:158:5
+-- src/lib.rt:159:5
 loop-holds : tie.Need-loop-holds Inv-loop μ-loop
 loop-holds c = (omega arith, omega arith, unfold endBefore in refl, at-start _ (c .before .pre .2))
 
--- src/lib.rt:159:13
+-- src/lib.rt:160:13
 entry-place-requires : tie.Need-entry-place-requires Inv-loop μ-loop
 entry-place-requires c κs = search needs
 
--- src/lib.rt:160:13
+-- src/lib.rt:161:13
 entry-in-requires : tie.Need-entry-in-requires Inv-loop μ-loop
 entry-in-requires c κs = search needs
 
--- src/lib.rt:161:13
+-- src/lib.rt:162:13
 is-seen-requires : tie.Need-is-seen-requires Inv-loop μ-loop
 is-seen-requires c κs = search needs
 
--- src/lib.rt:162:13
+-- src/lib.rt:163:13
 entry-rule-requires : tie.Need-entry-rule-requires Inv-loop μ-loop
 entry-rule-requires c κs = search needs
 
--- src/lib.rt:166:24
-cast-t11 : tie.Need-cast-t11 Inv-loop μ-loop
-cast-t11 c = search needs
+-- src/lib.rt:165:13
+refusal-requires : tie.Need-refusal-requires Inv-loop μ-loop
+refusal-requires c κs = search needs
 
--- src/lib.rt:164:13
+-- src/lib.rt:165:13
 returns : tie.Need-returns Inv-loop μ-loop
 returns c =
-    let e = c .before .before .before in
+    let r = c .before .before in
+    let e = r .before .before in
     let at = e .before .entry-place .ensures in
     let l = e .before .before .before .loop in
     let b = e .before .before .before .before .before in
     let file = now (b .args .file) in
-    let number = number-is file (b .pre .1) (l .i) (e .entry-in .result) (l .end) (c .before .before .is-seen .result) (e .entry-in .ensures .0 ∙ ap (entryFrom file) at) (l .inv .2) (c .before .before .is-seen .ensures) (c .before .entry-rule .ensures) in
-    stops file badEntry idAgain (entryNumber file) (entryPlace file) (entry-says file) (b .args .count) (l .i) (wrongEnd ∷ []) (e .before .before .loop-test .taken) number (at ∙ place-is file (b .pre .1) (l .i)) (c .if1 .taken) ∙ sym (l .inv .3)
+    let number = number-is file (b .pre .1) (l .i) (e .entry-in .result) (l .end) (r .before .is-seen .result) (e .entry-in .ensures .0 ∙ ap (entryFrom file) at) (l .inv .2) (r .before .is-seen .ensures) (r .entry-rule .ensures) in
+    c .refusal .ensures ∙ (stops file badEntry idAgain (entryNumber file) (entryPlace file) (entry-says file) (b .args .count) (l .i) (wrongEnd ∷ []) (e .before .before .loop-test .taken) number (at ∙ place-is file (b .pre .1) (l .i)) (c .before .if1 .taken) ∙ sym (l .inv .3))
 
--- src/lib.rt:169:21
+-- src/lib.rt:167:21
 mul-end : tie.Need-mul-end Inv-loop μ-loop
 mul-end c = search needs
 
--- src/lib.rt:169:15
+-- src/lib.rt:167:15
 add-end : tie.Need-add-end Inv-loop μ-loop
 add-end c = search needs
 
--- src/lib.rt:170:13
+-- src/lib.rt:168:13
 add-i : tie.Need-add-i Inv-loop μ-loop
 add-i c = search needs
 
--- src/lib.rt:158:5
+-- src/lib.rt:159:5
 loop-less : tie.Need-loop-less Inv-loop μ-loop
 loop-less c = search needs
 
--- src/lib.rt:158:5
+-- src/lib.rt:159:5
 loop-again : tie.Need-loop-again Inv-loop μ-loop
 loop-again c =
     let t = c .before .before in
@@ -91,31 +94,35 @@ loop-again c =
       l .inv .3 ∙ goes-on file badEntry idAgain (entryNumber file) (entryPlace file) (entry-says file) (b .args .count) (l .i) (wrongEnd ∷ []) (e .before .before .loop-test .taken) number z,
     )
 
--- src/lib.rt:172:8
+-- src/lib.rt:170:8
 cast-if2 : tie.Need-cast-if2 Inv-loop μ-loop
 cast-if2 c = search needs
 
--- src/lib.rt:175:20
-cast-t15 : tie.Need-cast-t15 Inv-loop μ-loop
-cast-t15 c = search needs
+-- src/lib.rt:171:9
+refusal-requires-2 : tie.Need-refusal-requires-2 Inv-loop μ-loop
+refusal-requires-2 c κs = search needs
 
--- src/lib.rt:173:9
+-- src/lib.rt:171:9
 returns-2 : tie.Need-returns-2 Inv-loop μ-loop
 returns-2 c =
-    let l = c .before .before .loop in
-    let b = c .before .before .before .before in
+    let h = c .before .before .loop-test .left in
+    let l = c .before .before .before .loop in
+    let b = c .before .before .before .before .before in
     let file = now (b .args .file) in
-    let h = c .before .loop-test .left in
-    wrong-end file (b .pre .2) (b .pre .1) (l .inv .2) (l .inv .0) h (c .if2 .taken) ∙ sym (l .inv .3 ∙ ended file badEntry idAgain (entryNumber file) (entryPlace file) (entry-says file) (b .args .count) (l .i) (wrongEnd ∷ []) h)
+    c .refusal2 .ensures ∙ (wrong-end file (b .pre .2) (b .pre .1) (l .inv .2) (l .inv .0) h (c .before .if2 .taken) ∙ sym (l .inv .3 ∙ ended file badEntry idAgain (entryNumber file) (entryPlace file) (entry-says file) (b .args .count) (l .i) (wrongEnd ∷ []) h))
 
--- src/lib.rt:152:1
+-- src/lib.rt:173:5
+acceptance-requires : tie.Need-acceptance-requires Inv-loop μ-loop
+acceptance-requires c κs = search needs
+
+-- src/lib.rt:153:1
 returns-3 : tie.Need-returns-3 Inv-loop μ-loop
 returns-3 c =
-    let l = c .before .before .loop in
-    let b = c .before .before .before .before in
+    let h = c .before .before .loop-test .left in
+    let l = c .before .before .before .loop in
+    let b = c .before .before .before .before .before in
     let file = now (b .args .file) in
-    let h = c .before .loop-test .left in
-    right-end file (b .pre .2) (b .pre .1) (l .inv .2) (l .inv .0) h (c .if2 .left) ∙ sym (l .inv .3 ∙ ended file badEntry idAgain (entryNumber file) (entryPlace file) (entry-says file) (b .args .count) (l .i) (wrongEnd ∷ []) h)
+    c .acceptance .ensures ∙ (right-end file (b .pre .2) (b .pre .1) (l .inv .2) (l .inv .0) h (c .before .if2 .left) ∙ sym (l .inv .3 ∙ ended file badEntry idAgain (entryNumber file) (entryPlace file) (entry-says file) (b .args .count) (l .i) (wrongEnd ∷ []) h))
 
 pub entries-spec : {M : Type 1} → statement M
 entries-spec =
@@ -128,7 +135,7 @@ entries-spec =
     entry-in-requires
     is-seen-requires
     entry-rule-requires
-    cast-t11
+    refusal-requires
     returns
     mul-end
     add-end
@@ -136,6 +143,7 @@ entries-spec =
     loop-less
     loop-again
     cast-if2
-    cast-t15
+    refusal-requires-2
     returns-2
+    acceptance-requires
     returns-3)

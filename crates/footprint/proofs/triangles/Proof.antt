@@ -12,6 +12,8 @@ use Rattle.footprint.proofs.triangles.Statement.{statement}
 use Rattle.footprint.proofs.triangles.Tie as tie
 use Rattle.footprint.proofs.triangles.Reads as reads
 use Rattle.footprint.proofs.triangles.Lts as lts
+use Rattle.footprint.proofs.acceptance.Reads as acceptance-reads
+use Rattle.footprint.proofs.refusal.Reads as refusal-reads
 use Rattle.footprint.proofs.triangle_in.Reads as triangle-in-reads
 
 abbrev Inv-loop : tie.InvT-loop
@@ -20,39 +22,40 @@ Inv-loop file table n k₀ k = (k ≤ table / 24) × (firstOf file (triangleRows
 abbrev μ-loop : tie.MeasureT-loop
 μ-loop file table n k₀ k = table / 24 - k
 
--- src/lib.rt:183:5
+-- src/lib.rt:197:5
 loop-holds : tie.Need-loop-holds Inv-loop μ-loop
 loop-holds c = (omega arith, from-start _ (c .before .pre .0))
 
--- src/lib.rt:184:18
-mul-at : tie.Need-mul-at Inv-loop μ-loop
-mul-at c = search needs
+-- src/lib.rt:198:18
+mul-place : tie.Need-mul-place Inv-loop μ-loop
+mul-place c = search needs
 
--- src/lib.rt:185:13
+-- src/lib.rt:199:13
 triangle-in-requires : tie.Need-triangle-in-requires Inv-loop μ-loop
 triangle-in-requires c κs = search needs
 
--- src/lib.rt:189:24
-cast-t8 : tie.Need-cast-t8 Inv-loop μ-loop
-cast-t8 c = search needs
+-- src/lib.rt:201:13
+refusal-requires : tie.Need-refusal-requires Inv-loop μ-loop
+refusal-requires c κs = search needs
 
--- src/lib.rt:187:13
+-- src/lib.rt:201:13
 returns : tie.Need-returns Inv-loop μ-loop
 returns c =
-    let l = c .before .before .before .loop in
-    let b = c .before .before .before .before .before in
+    let t = c .before .before in
+    let l = t .before .before .loop in
+    let b = t .before .before .before .before in
     let file = now (b .args .file) in
-    stops file outOfRange flat (triangleNumber file) trianglePlace (triangle-says file) (b .args .table / 24) (l .k) [] (c .before .before .loop-test .taken) (triangle-number file (l .k) (c .before .triangle-in .ensures)) refl (c .if1 .taken) ∙ sym (l .inv .1)
+    c .refusal .ensures ∙ (stops file outOfRange flat (triangleNumber file) trianglePlace (triangle-says file) (b .args .table / 24) (l .k) [] (t .before .loop-test .taken) (triangle-number file (l .k) (t .triangle-in .ensures)) refl (c .before .if1 .taken) ∙ sym (l .inv .1))
 
--- src/lib.rt:192:13
+-- src/lib.rt:203:13
 add-k : tie.Need-add-k Inv-loop μ-loop
 add-k c = search needs
 
--- src/lib.rt:183:5
+-- src/lib.rt:197:5
 loop-less : tie.Need-loop-less Inv-loop μ-loop
 loop-less c = search needs
 
--- src/lib.rt:183:5
+-- src/lib.rt:197:5
 loop-again : tie.Need-loop-again Inv-loop μ-loop
 loop-again c =
     let l = c .before .before .before .loop in
@@ -60,13 +63,17 @@ loop-again c =
     let file = now (b .args .file) in
     (omega arith, l .inv .1 ∙ goes-on file outOfRange flat (triangleNumber file) trianglePlace (triangle-says file) (b .args .table / 24) (l .k) [] (c .before .before .loop-test .taken) (triangle-number file (l .k) (c .before .triangle-in .ensures)) (c .if1 .left))
 
--- src/lib.rt:177:1
+-- src/lib.rt:205:5
+acceptance-requires : tie.Need-acceptance-requires Inv-loop μ-loop
+acceptance-requires c κs = search needs
+
+-- src/lib.rt:191:1
 returns-2 : tie.Need-returns-2 Inv-loop μ-loop
 returns-2 c =
-    let l = c .before .loop in
-    let b = c .before .before .before in
+    let l = c .before .before .loop in
+    let b = c .before .before .before .before in
     let file = now (b .args .file) in
-    sym (l .inv .1 ∙ (ended file outOfRange flat (triangleNumber file) trianglePlace (triangle-says file) (b .args .table / 24) (l .k) [] (c .loop-test .left) ∙ unfold firstOf in refl))
+    c .acceptance .ensures ∙ sym (l .inv .1 ∙ (ended file outOfRange flat (triangleNumber file) trianglePlace (triangle-says file) (b .args .table / 24) (l .k) [] (c .before .loop-test .left) ∙ unfold firstOf in refl))
 
 pub triangles-spec : {M : Type 1} → statement M
 triangles-spec =
@@ -75,11 +82,12 @@ triangles-spec =
     Inv-loop
     μ-loop
     loop-holds
-    mul-at
+    mul-place
     triangle-in-requires
-    cast-t8
+    refusal-requires
     returns
     add-k
     loop-less
     loop-again
+    acceptance-requires
     returns-2)

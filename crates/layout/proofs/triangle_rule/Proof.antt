@@ -1,118 +1,42 @@
-use mathlib.Core.Path.{_≡_, sym, ap, _∙_}
-use mathlib.Core.Bool.{false}
-use Rattle.floats.specs.Lists.{any}
-use Rattle.layout.specs.Rules.{isFar, isOutOfRange, isFlat, triangleRule}
-use Rattle.layout.proofs.Cross.{far-is, near-back, same-triangle}
+use mathlib.Core.Path.{_≡_}
+use mathlib.Core.Bool.{true, false}
+use Rattle.layout.specs.Parts.{triangleOf}
+use Rattle.layout.specs.Rules.{isOutOfRange, isFlat, triangleRule}
+use Rattle.layout.proofs.Cross.{near-back, of-triangle, none-far}
 use borrow.Author.Needs.{needs}
 use Rattle.layout.proofs.triangle_rule.Statement.{statement}
 use Rattle.layout.proofs.triangle_rule.Tie as tie
 use Rattle.layout.proofs.triangle_rule.Reads as reads
 use Rattle.layout.proofs.triangle_rule.Lts as lts
-use Rattle.layout.proofs.is_far.Reads as is-far-reads
 use Rattle.layout.proofs.is_flat.Reads as is-flat-reads
+use Rattle.layout.proofs.is_out_of_range.Reads as is-out-of-range-reads
 
-not1 : (c : tie.Else1) → isFar (c .before .before .args .x0) ≡ false
-not1 c = far-is _ _ _ (c .before .before .fits .x0) (c .before .is-far .ensures) (c .if1 .left)
+in-range : (c : tie.Else1) → isOutOfRange (triangleOf (c .before .before .args .x0) (c .before .before .args .y0) (c .before .before .args .x1) (c .before .before .args .y1) (c .before .before .args .x2) (c .before .before .args .y2)) ≡ false
+in-range c = let s = c .before .before in of-triangle isOutOfRange false (s .fits .x0) (s .fits .y0) (s .fits .x1) (s .fits .y1) (s .fits .x2) (s .fits .y2) (c .before .is-out-of-range .ensures) (c .if1 .left)
 
-not2 : (c : tie.Else2) → isFar (c .before .before .before .before .args .y0) ≡ false
-not2 c = far-is _ _ _ (c .before .before .before .before .fits .y0) (c .before .is-far2 .ensures) (c .if2 .left)
+-- src/lib.rt:95:8
+is-out-of-range-requires : tie.Need-is-out-of-range-requires
+is-out-of-range-requires c κs = search needs
 
-not3 : (c : tie.Else3) → isFar (c .before .before .before .before .before .before .args .x1) ≡ false
-not3 c = far-is _ _ _ (c .before .before .before .before .before .before .fits .x1) (c .before .is-far3 .ensures) (c .if3 .left)
-
-not4 : (c : tie.Else4) → isFar (c .before .before .before .before .before .before .before .before .args .y1) ≡ false
-not4 c = far-is _ _ _ (c .before .before .before .before .before .before .before .before .fits .y1) (c .before .is-far4 .ensures) (c .if4 .left)
-
-not5 : (c : tie.Else5) → isFar (c .before .before .before .before .before .before .before .before .before .before .args .x2) ≡ false
-not5 c = far-is _ _ _ (c .before .before .before .before .before .before .before .before .before .before .fits .x2) (c .before .is-far5 .ensures) (c .if5 .left)
-
-not6 : (c : tie.Else6) → isFar (c .before .before .before .before .before .before .before .before .before .before .before .before .args .y2) ≡ false
-not6 c = far-is _ _ _ (c .before .before .before .before .before .before .before .before .before .before .before .before .fits .y2) (c .before .is-far6 .ensures) (c .if6 .left)
-
--- src/lib.rt:73:8
-is-far-requires : tie.Need-is-far-requires
-is-far-requires c κs = search needs
-
--- src/lib.rt:74:9
+-- src/lib.rt:96:9
 returns : tie.Need-returns
-unfolding triangleRule isOutOfRange any
-returns c = simp (far-is _ _ _ (c .before .before .fits .x0) (c .before .is-far .ensures) (c .if1 .taken))
+unfolding triangleRule
+returns c = let s = c .before .before in simp (of-triangle isOutOfRange true (s .fits .x0) (s .fits .y0) (s .fits .x1) (s .fits .y1) (s .fits .x2) (s .fits .y2) (c .before .is-out-of-range .ensures) (c .if1 .taken))
 
--- src/lib.rt:76:8
-is-far-requires-2 : tie.Need-is-far-requires-2
-is-far-requires-2 c κs = search needs
-
--- src/lib.rt:77:9
-returns-2 : tie.Need-returns-2
-unfolding triangleRule isOutOfRange any
-returns-2 c = simp (not1 (c .before .before), far-is _ _ _ (c .before .before .before .before .fits .y0) (c .before .is-far2 .ensures) (c .if2 .taken))
-
--- src/lib.rt:79:8
-is-far-requires-3 : tie.Need-is-far-requires-3
-is-far-requires-3 c κs = search needs
-
--- src/lib.rt:80:9
-returns-3 : tie.Need-returns-3
-unfolding triangleRule isOutOfRange any
-returns-3 c = simp (not1 (c .before .before .before .before), not2 (c .before .before), far-is _ _ _ (c .before .before .before .before .before .before .fits .x1) (c .before .is-far3 .ensures) (c .if3 .taken))
-
--- src/lib.rt:82:8
-is-far-requires-4 : tie.Need-is-far-requires-4
-is-far-requires-4 c κs = search needs
-
--- src/lib.rt:83:9
-returns-4 : tie.Need-returns-4
-unfolding triangleRule isOutOfRange any
-returns-4 c = simp (not1 (c .before .before .before .before .before .before), not2 (c .before .before .before .before), not3 (c .before .before), far-is _ _ _ (c .before .before .before .before .before .before .before .before .fits .y1) (c .before .is-far4 .ensures) (c .if4 .taken))
-
--- src/lib.rt:85:8
-is-far-requires-5 : tie.Need-is-far-requires-5
-is-far-requires-5 c κs = search needs
-
--- src/lib.rt:86:9
-returns-5 : tie.Need-returns-5
-unfolding triangleRule isOutOfRange any
-returns-5 c = simp (not1 (c .before .before .before .before .before .before .before .before), not2 (c .before .before .before .before .before .before), not3 (c .before .before .before .before), not4 (c .before .before), far-is _ _ _ (c .before .before .before .before .before .before .before .before .before .before .fits .x2) (c .before .is-far5 .ensures) (c .if5 .taken))
-
--- src/lib.rt:88:8
-is-far-requires-6 : tie.Need-is-far-requires-6
-is-far-requires-6 c κs = search needs
-
--- src/lib.rt:89:9
-returns-6 : tie.Need-returns-6
-unfolding triangleRule isOutOfRange any
-returns-6 c = simp (not1 (c .before .before .before .before .before .before .before .before .before .before), not2 (c .before .before .before .before .before .before .before .before), not3 (c .before .before .before .before .before .before), not4 (c .before .before .before .before), not5 (c .before .before), far-is _ _ _ (c .before .before .before .before .before .before .before .before .before .before .before .before .fits .y2) (c .before .is-far6 .ensures) (c .if6 .taken))
-
--- src/lib.rt:91:8
+-- src/lib.rt:98:8
 is-flat-requires : tie.Need-is-flat-requires
-is-flat-requires c κs = (near-back _ (c .before .before .before .before .before .before .before .before .before .before .before .before .fits .x0) (not1 (c .before .before .before .before .before .before .before .before .before .before)), near-back _ (c .before .before .before .before .before .before .before .before .before .before .before .before .fits .y0) (not2 (c .before .before .before .before .before .before .before .before)), near-back _ (c .before .before .before .before .before .before .before .before .before .before .before .before .fits .x1) (not3 (c .before .before .before .before .before .before)), near-back _ (c .before .before .before .before .before .before .before .before .before .before .before .before .fits .y1) (not4 (c .before .before .before .before)), near-back _ (c .before .before .before .before .before .before .before .before .before .before .before .before .fits .x2) (not5 (c .before .before)), near-back _ (c .before .before .before .before .before .before .before .before .before .before .before .before .fits .y2) (not6 (c)))
+is-flat-requires c κs = let s = c .before .before in let n = none-far _ _ _ _ _ _ (in-range c) in (near-back _ (s .fits .x0) (n .0), near-back _ (s .fits .y0) (n .1), near-back _ (s .fits .x1) (n .2), near-back _ (s .fits .y1) (n .3), near-back _ (s .fits .x2) (n .4), near-back _ (s .fits .y2) (n .5))
 
--- src/lib.rt:92:9
-returns-7 : tie.Need-returns-7
-unfolding triangleRule isOutOfRange any
-returns-7 c = simp (not1 (c .before .before .before .before .before .before .before .before .before .before .before .before), not2 (c .before .before .before .before .before .before .before .before .before .before), not3 (c .before .before .before .before .before .before .before .before), not4 (c .before .before .before .before .before .before), not5 (c .before .before .before .before), not6 (c .before .before), sym (ap isFlat (same-triangle (c .before .before .before .before .before .before .before .before .before .before .before .before .before .before .fits .x0) (c .before .before .before .before .before .before .before .before .before .before .before .before .before .before .fits .y0) (c .before .before .before .before .before .before .before .before .before .before .before .before .before .before .fits .x1) (c .before .before .before .before .before .before .before .before .before .before .before .before .before .before .fits .y1) (c .before .before .before .before .before .before .before .before .before .before .before .before .before .before .fits .x2) (c .before .before .before .before .before .before .before .before .before .before .before .before .before .before .fits .y2))) ∙ (sym (c .before .is-flat .ensures) ∙ c .if7 .taken))
+-- src/lib.rt:99:9
+returns-2 : tie.Need-returns-2
+unfolding triangleRule
+returns-2 c = let e = c .before .before in let s = e .before .before in simp (in-range e, of-triangle isFlat true (s .fits .x0) (s .fits .y0) (s .fits .x1) (s .fits .y1) (s .fits .x2) (s .fits .y2) (c .before .is-flat .ensures) (c .if2 .taken))
 
--- src/lib.rt:70:1
-returns-8 : tie.Need-returns-8
-unfolding triangleRule isOutOfRange any
-returns-8 c = simp (not1 (c .before .before .before .before .before .before .before .before .before .before .before .before), not2 (c .before .before .before .before .before .before .before .before .before .before), not3 (c .before .before .before .before .before .before .before .before), not4 (c .before .before .before .before .before .before), not5 (c .before .before .before .before), not6 (c .before .before), sym (ap isFlat (same-triangle (c .before .before .before .before .before .before .before .before .before .before .before .before .before .before .fits .x0) (c .before .before .before .before .before .before .before .before .before .before .before .before .before .before .fits .y0) (c .before .before .before .before .before .before .before .before .before .before .before .before .before .before .fits .x1) (c .before .before .before .before .before .before .before .before .before .before .before .before .before .before .fits .y1) (c .before .before .before .before .before .before .before .before .before .before .before .before .before .before .fits .x2) (c .before .before .before .before .before .before .before .before .before .before .before .before .before .before .fits .y2))) ∙ (sym (c .before .is-flat .ensures) ∙ c .if7 .left))
+-- src/lib.rt:92:1
+returns-3 : tie.Need-returns-3
+unfolding triangleRule
+returns-3 c = let e = c .before .before in let s = e .before .before in simp (in-range e, of-triangle isFlat false (s .fits .x0) (s .fits .y0) (s .fits .x1) (s .fits .y1) (s .fits .x2) (s .fits .y2) (c .before .is-flat .ensures) (c .if2 .left))
 
 pub triangle-rule-spec : {M : Type 1} → statement M
 triangle-rule-spec =
-    tie.close
-    (tie.spec
-    is-far-requires
-    returns
-    is-far-requires-2
-    returns-2
-    is-far-requires-3
-    returns-3
-    is-far-requires-4
-    returns-4
-    is-far-requires-5
-    returns-5
-    is-far-requires-6
-    returns-6
-    is-flat-requires
-    returns-7
-    returns-8)
+    tie.close (tie.spec is-out-of-range-requires returns is-flat-requires returns-2 returns-3)
