@@ -14,7 +14,8 @@ use Rattle.layout.specs.Verdict.{outOfRange, flat, inTurn, test, placeOf, first
 use Rattle.layout.specs.Rules.{isBadLength, isOtherLength, isBadTrailer, triangleRule}
 use Rattle.layout.specs.declared.Verdict.{Verdict}
 use Rattle.layout.specs.declared.Entry.{Entry}
-use Rattle.layout.proofs.Stages.{orElse, refused, passed, trailerRows, tableRows, triangleRows, triangleNumber, by-stages}
+use Rattle.layout.specs.Stages.{orElse, trailerRows, tableRows, triangleRows, triangleNumber}
+use Rattle.layout.proofs.Stages.{refused, passed, by-stages}
 
 -- ---- a passed trailer
 pub record Fits (file : List ℕ) : Type 0 where

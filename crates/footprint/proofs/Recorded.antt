@@ -9,12 +9,11 @@ use Rattle.layout.specs.Parts.{countOf, entryAt, endOf}
 use Rattle.layout.specs.Verdict.{said, verdict}
 use Rattle.layout.specs.Layout.{Layout}
 use Rattle.layout.specs.Recordings.{refused, answered, noSuch, bytesOf, recordingOf, partOf}
-use Rattle.layout.specs.Promise.{Checked, Recorded, Demand1}
+use Rattle.layout.specs.Promise.{Demand2}
 use Rattle.layout.specs.declared.Verdict.{Verdict}
 use Rattle.layout.specs.declared.Entry.{Entry}
 use Rattle.layout.specs.declared.Recording.{Recording}
 use Rattle.layout.proofs.Returned.{is-good, has-layout, by-file, no-such, there-is, returned-one}
-use Rattle.layout.proofs.Inside.{parts-inside}
 
 pub layout-of : (file : List ℕ) {v : Verdict} → v ≡ verdict file → v .number ≡ 0 → Layout file
 layout-of file h z = has-layout file (sym (ap (λ (x : Verdict). x .number) h) ∙ z)
@@ -32,24 +31,9 @@ module _ (file : List ℕ) (k : ℕ) where
   pub by-entry : {n : ℕ} {e : Entry} → Layout file → n ≡ countOf file → k < n → e ≡ entryAt file k → answered e ≡ recordingOf file k
   by-entry l q h e = ap answered e ∙ sym (there-is file k (is-good file l) (omega arith) .0)
 
-  -- what an answer says: its entry, the part's place in the file, and what the part is
-  pub record Answered (r : Recording) : Type 0 where
-    pub inFile : r .first + 24 * r .count ≤ length file
-    pub part : take (24 * r .count) (drop (r .first) file) ≡ partOf file k
-
-  demand : (r : Recording) → r ≡ recordingOf file k → Demand1 file k (verdict file) r (partOf file k)
-  demand r h = returned-one file k (verdict file) r (partOf file k) refl h refl
-
-  pub answered-of : {r : Recording} → r ≡ recordingOf file k → r .number ≡ 0 → Answered r
-  answered-of {r} h z =
-      let w = demand r h .answered .0 z in
-      let t = there-is file k (is-good file (w .0)) (w .1) in
-      let e : r ≡ answered (entryAt file k) = h ∙ t .0 in
-      let i = parts-inside file k (w .0) (w .1) in
-      record { inFile = rw e (i .inFile); part = rw e (sym (t .1)) }
-
   pub no-part : {r : Recording} → r ≡ recordingOf file k → (r .number ≡ 0 → ⊥) → [] ≡ partOf file k
-  no-part {r} h n = sym (demand r h .noPart n)
+  no-part {r} h n = sym (returned-one file k (verdict file) r (partOf file k) refl h refl .noPart n)
 
-  pub part-is : {r : Recording} {end : ℕ} → Answered r → end ≡ r .first + 24 * r .count → take (end - r .first) (drop (r .first) file) ≡ partOf file k
-  part-is {r} a e = ap (λ n. take (n - r .first) (drop (r .first) file)) e ∙ (ap (λ n. take n (drop (r .first) file)) (add-sub-cancel-left (r .first) (24 * r .count)) ∙ a .part)
+  -- the bytes from the first place to the end are those that the promise tells
+  pub part-is : {r : Recording} {end : ℕ} → Demand2 file k r (partOf file k) → end ≡ r .first + 24 * r .count → take (end - r .first) (drop (r .first) file) ≡ partOf file k
+  part-is {r} d e = ap (λ n. take (n - r .first) (drop (r .first) file)) e ∙ (ap (λ n. take n (drop (r .first) file)) (add-sub-cancel-left (r .first) (24 * r .count)) ∙ sym (d .bytes))

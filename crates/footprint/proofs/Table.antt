@@ -11,7 +11,7 @@ use Rattle.layout.specs.Bytes.{u32At}
 use Rattle.layout.specs.Parts.{tablePlace, countOf, entryFrom, entryPlace, entryAt, endOf, endBefore}
 use Rattle.layout.specs.Rules.{isBadEntry, isSeen, entryRule}
 use Rattle.layout.specs.Verdict.{badEntry, idAgain, wrongEnd, idsBefore, test, placeOf, inTurn, firstOf, said, good}
-use Rattle.layout.proofs.Stages.{tableRows, entryNumber}
+use Rattle.layout.specs.Stages.{tableRows, entryNumber}
 use Rattle.layout.specs.declared.Entry.{Entry}
 
 module _ (file : List ℕ) {table : ℕ} (at-table : table ≡ tablePlace file) where

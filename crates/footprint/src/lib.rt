@@ -9,7 +9,7 @@ ghost use Rattle.layout.specs.Rules.{isSeen, triangleRule};
 ghost use Rattle.layout.specs.Verdict.{idsBefore, firstOf, said, good};
 ghost use Rattle.layout.specs.Recordings.{refused as refusedAs, f64At};
 ghost use Rattle.layout.specs.Promise.{Checked, Recorded, Parted};
-ghost use Rattle.layout.proofs.Stages.{trailerRows, tableRows, triangleRows};
+ghost use Rattle.layout.specs.Stages.{trailerRows, tableRows, triangleRows};
 
 fn wide(a: u8) -> u32
     ensures { λ r. ⌜ r ≡ a ⌝ }
@@ -303,7 +303,7 @@ fn u32_at(bytes: &[u8], at: usize) -> u32
     u32_in(bytes, at)
 }
 
-// The coordinate at a place of a file or of a part, as it is stored.
+// The coordinate at a place of a file or of a part, as it is stored; bytes beyond the end count as 0.
 pub fn i32_at(bytes: &[u8], at: usize) -> i32
     ensures { λ r. ⌜ r ≡ i32At (now (bytes .entry)) at ⌝ }
 {

@@ -17,7 +17,7 @@ use Rattle.layout.specs.Rows.{Applies}
 use Rattle.layout.proofs.Rows.{exactly-when}
 
 -- two numbers are the same if they cannot be others
-same : (a b : ℕ) → ((a ≡ b → ⊥) → ⊥) → a ≡ b
+pub same : (a b : ℕ) → ((a ≡ b → ⊥) → ⊥) → a ≡ b
 same a b h = go (eqb a b) refl
   where
     go : (t : Bool) → eqb a b ≡ t → a ≡ b

@@ -1,22 +1,24 @@
 -- Recordings lie end to end from 0 to the table, so each begins at a multiple of 24 and ends before the table; and a byte of a part is the file's byte that many places further on. Assumes nothing.
 use Prim.Native.Nat.{ℕ, zero, suc, _+_, _-_, _*_, _<_, _≤_, _^_}
-use mathlib.Core.Path.{_≡_, refl, sym, ap, subst, _∙_}
+use mathlib.Core.Path.{_≡_, refl, sym, ap, ap₂, subst, _∙_}
 use mathlib.Core.Logic.{_⊎_, ⊎-elim}
-use mathlib.Core.List.{List, List·Memᴰ}
+use mathlib.Core.Bool.{Bool, true, false, cond}
+use mathlib.Core.List.{List, _++_, List·Memᴰ}
 use native.Mathlib.Omega.{arith}
 use native.Mathlib.Nat.{eq-or-lt-of-le, add-assoc}
 use lib.ListN.{length, take, drop, getD, length-take, length-drop}
-use lib.Seq.{getD-take, getD-drop, length-take-le}
-use lib.Dec.{le→leb, lt→ltb}
-use lib.IntN.{ℤ, pos, negsuc, natAbs}
-use lib.Ieee.{binary64, ofInt, inFloat}
+use lib.Seq.{getD-take, getD-drop, length-take-le, take-add}
+use lib.Dec.{T, ltb, le→leb, lt→ltb}
+use borrow.Author.Tests.{ltb-true, ltb-false, lt-ltb}
+use lib.IntN.{ℤ, pos, negsuc, natAbs, _-ℤ_}
+use lib.Ieee.{binary64, ofInt, inFloat, inSigned, toSigned}
 use lib.Ieee.Back.{positive-back, negative-back}
 use Rattle.layout.specs.Bytes.{byteAt, u32At, signed, i32At}
-use Rattle.layout.specs.Parts.{Triangle, numbersOf, tablePlace, countOf, entryAt, endOf, triangleFrom, triangleAt}
+use Rattle.layout.specs.Parts.{Triangle, numbersOf, tablePlace, countOf, entryAt, endOf, endBefore, triangleFrom, triangleAt}
 use Rattle.layout.specs.Rules.{twiceArea}
 use Rattle.layout.specs.Layout.{Layout}
 use Rattle.layout.specs.Recordings.{bytesOf, partOf, f64At}
-use Rattle.layout.specs.Inside.{Inside, PartsInside, Unchanged}
+use Rattle.layout.specs.Inside.{Inside, PartsInside, partsTo, PartsJoined, Unchanged}
 use Rattle.layout.specs.declared.Entry.{Entry}
 use Rattle.layout.proofs.Returned.{is-good, there-is}
 
@@ -95,8 +97,35 @@ module _ (file : List ℕ) (l : Layout file) where
 pub parts-inside : PartsInside
 parts-inside file k l h = inside-is file l k h
 
--- whole numbers up to 2^53 are f64
+-- ---- the parts together
+module _ (file : List ℕ) (l : Layout file) where
+  starts : (i : ℕ) → i < countOf file → entryAt file i .first ≡ endBefore file i
+  unfolding endBefore
+  starts zero h = l .fromStart h
+  starts (suc i) h = let q : i + 1 ≡ suc i = omega arith in subst (λ n. entryAt file n .first ≡ endOf (entryAt file i)) q (l .endToEnd i (omega arith))
+
+  up-to : (n : ℕ) → n ≤ countOf file → partsTo file n ≡ take (endBefore file n) file
+  unfolding partsTo endBefore
+  up-to zero h = refl
+  up-to (suc n) h =
+      let e = entryAt file n in
+      let f : e .first ≡ endBefore file n = starts n (omega arith) in
+      ap₂ _++_ (up-to n (omega arith) ∙ ap (λ m. take m file) (sym f)) (there-is file n (is-good file l) (omega arith) .1)
+      ∙ sym (take-add (e .first) (24 * e .count) file)
+
+  end-at : (n : ℕ) → n ≡ countOf file → endBefore file n ≡ tablePlace file
+  unfolding endBefore
+  end-at zero q = sym (l .noneNoTriangles (sym q))
+  end-at (suc n) q = l .toTable n (omega arith)
+
+pub parts-joined : PartsJoined
+parts-joined file l = up-to file l (countOf file) (omega arith) ∙ ap (λ m. take m file) (end-at file l (countOf file) refl)
+
+-- ---- whole numbers up to 2^53 are f64
 pub unchanged : Unchanged
-unfolding inFloat
-unchanged (pos n) h = positive-back binary64 31 n (le→leb n (2 ^ 53) (omega arith)) (omega arith) .1
-unchanged (negsuc n) h = negative-back binary64 31 n (lt→ltb n (2 ^ 53) (omega arith)) (omega arith) .1
+unfolding signed inFloat
+unchanged v h = go (ltb v 2147483648) refl
+  where
+    go : (b : Bool) → ltb v 2147483648 ≡ b → T (inSigned binary64 31 (ofInt binary64 (cond b (pos v) (pos v -ℤ pos 4294967296)))) × (toSigned 31 (ofInt binary64 (cond b (pos v) (pos v -ℤ pos 4294967296))) ≡ cond b (pos v) (pos v -ℤ pos 4294967296))
+    go true e = let m = ltb-true v 2147483648 e in positive-back binary64 31 v (le→leb v (2 ^ 53) (omega arith)) (omega arith)
+    go false e = let m = ltb-false v 2147483648 e in rw (lt-ltb v 4294967296 h) (negative-back binary64 31 (4294967296 - suc v) (lt→ltb (4294967296 - suc v) (2 ^ 53) (omega arith)) (omega arith))

@@ -4,6 +4,7 @@ pub mod Rows
 pub mod Accepted
 pub mod Returned
 pub mod Inside
+pub mod Answered
 pub mod Size
 pub mod Cross
 pub mod Stages

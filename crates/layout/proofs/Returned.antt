@@ -1,5 +1,5 @@
 -- No second answer fits, and demand 1 of files, each read off the promises. Assumes nothing.
-use Prim.Native.Nat.{ℕ, _<_, _≤_}
+use Prim.Native.Nat.{ℕ, _+_, _*_, _<_, _≤_}
 use mathlib.Core.Path.{_≡_, refl, sym, ap, subst, _∙_}
 use mathlib.Core.Logic.{_⊎_, inl, inr, ⊎-elim, _↔_}
 use mathlib.Core.Bool.{Bool, true, false, cond}
@@ -7,23 +7,25 @@ use mathlib.Core.List.{List, []}
 use native.Mathlib.Omega.{arith}
 use lib.Dec.{eqb, ltb}
 use borrow.Author.Tests.{eq-eqb, ne-eqb, eqb-true, eqb-false, lt-ltb, le-ltb, ltb-true, ltb-false}
-use Rattle.layout.specs.Parts.{countOf, entryAt}
+use lib.ListN.{length}
+use Rattle.layout.specs.Parts.{tablePlace, countOf, entryPlace, entryAt}
 use Rattle.layout.specs.Verdict.{Row, badLength, otherLength, badTrailer, badEntry, idAgain, wrongEnd, outOfRange, flat, numberOf, placeOf, said, good, verdict}
 use Rattle.layout.specs.Layout.{Layout}
+use Rattle.layout.specs.Rows.{Applies, First}
 use Rattle.layout.specs.Recordings.{unlessRefused, refused, answered, noSuch, bytesOf, recordingOf, partOf}
-use Rattle.layout.specs.Promise.{NoSecondAnswer, Zeros, Demand1, ReturnedOne}
+use Rattle.layout.specs.Promise.{NoSecondAnswer, FileFirst, Zeros, Demand1, ReturnedOne}
 use Rattle.layout.specs.declared.Verdict.{Verdict}
 use Rattle.layout.specs.declared.Recording.{Recording}
 use Rattle.layout.proofs.Rows.{exactly-when}
-use Rattle.layout.proofs.Accepted.{accepted-exactly-if}
+use Rattle.layout.proofs.Accepted.{same, accepted-exactly-if}
 
 pub unique : NoSecondAnswer
 unique = record { check = λ file a b p q. p ∙ sym q; recording = λ file k a b p q. p ∙ sym q; part = λ file k a b p q. p ∙ sym q }
 
 -- ---- the file's own refusal comes first, whatever is asked
-pub file-first : {A : Type 0} (file : List ℕ) (f : Verdict → A) (answer : A) → (verdict file .number ≡ 0 → ⊥) → unlessRefused file f answer ≡ f (verdict file)
+pub file-first : FileFirst
 unfolding unlessRefused
-file-first file f answer h = rw (ne-eqb (verdict file .number) 0 h) refl
+file-first A file f answer h = rw (ne-eqb (verdict file .number) 0 h) refl
 
 pub not-refused : {A : Type 0} (file : List ℕ) (f : Verdict → A) (answer : A) → verdict file .number ≡ 0 → unlessRefused file f answer ≡ answer
 unfolding unlessRefused
@@ -39,6 +41,27 @@ in-table (idAgain i) = (omega arith, omega arith)
 in-table wrongEnd = (omega arith, omega arith)
 in-table (outOfRange k) = (omega arith, omega arith)
 in-table (flat k) = (omega arith, omega arith)
+
+-- ---- the place lies in the file
+trailer-fits : (file : List ℕ) → (Applies file badTrailer → ⊥) → tablePlace file + 12 * countOf file + 12 ≡ length file
+trailer-fits file h = same _ _ (λ n. h (inr n))
+
+place-in-row : (file : List ℕ) (row : Row) → First file row → placeOf file row ≤ length file
+unfolding placeOf entryPlace
+place-in-row file badLength f = omega arith
+place-in-row file otherLength f = omega arith
+place-in-row file badTrailer f = omega arith
+place-in-row file (badEntry i) f = let h = f .applies .0 in let t = trailer-fits file (f .noneBefore badTrailer (inl (omega arith))) in omega arith
+place-in-row file (idAgain i) f = let h = f .applies .0 in let t = trailer-fits file (f .noneBefore badTrailer (inl (omega arith))) in omega arith
+place-in-row file wrongEnd f = let t = trailer-fits file (f .noneBefore badTrailer (inl (omega arith))) in omega arith
+place-in-row file (outOfRange k) f = let h = f .applies .0 in let t = trailer-fits file (f .noneBefore badTrailer (inl (omega arith))) in omega arith
+place-in-row file (flat k) f = let h = f .applies .0 in let t = trailer-fits file (f .noneBefore badTrailer (inl (omega arith))) in omega arith
+
+place-in : (file : List ℕ) → verdict file .place ≤ length file
+place-in file = ⊎-elim
+    (λ g. rw g (omega arith))
+    (λ w. rw (w .1) (place-in-row file (w .0) (exactly-when file .refusedBy (w .0) .0 (w .1))))
+    (exactly-when file .nothingElse)
 
 module _ (file : List ℕ) where
   pub number-good : verdict file .number ≡ 0 → verdict file ≡ good
@@ -60,7 +83,7 @@ module _ (file : List ℕ) where
   module _ (k : ℕ) where
     pub by-file : (verdict file .number ≡ 0 → ⊥) → (recordingOf file k ≡ refused (verdict file)) × (partOf file k ≡ [])
     unfolding recordingOf partOf
-    by-file h = (file-first file refused _ h, file-first file (λ v. []) _ h)
+    by-file h = (file-first Recording file refused _ h, file-first (List ℕ) file (λ v. []) _ h)
 
     pub no-such : verdict file .number ≡ 0 → countOf file ≤ k → (recordingOf file k ≡ refused noSuch) × (partOf file k ≡ [])
     unfolding recordingOf partOf
@@ -94,6 +117,7 @@ module _ (file : List ℕ) where
           refusedBy = exactly-when file .refusedBy;
           accepted = accepted-exactly-if file;
           nothingElse = exactly-when file .nothingElse;
+          inFile = place-in file;
           fileFirst = λ e. rw (r .0) (refl, refl);
           answered = rw (r .0) ((λ z. absurd (h z)), (λ l. absurd (h (is-good (l .0)))));
           noSuch = rw (r .0) ((λ z. absurd (omega (arith, n .0))), (λ l. absurd (h (is-good (l .0)))));
@@ -106,6 +130,7 @@ module _ (file : List ℕ) where
           refusedBy = exactly-when file .refusedBy;
           accepted = accepted-exactly-if file;
           nothingElse = exactly-when file .nothingElse;
+          inFile = place-in file;
           fileFirst = λ e. absurd (e z);
           answered = rw (r .0) ((λ (e : _≡_ {A = ℕ} 10 0). absurd (omega arith)), (λ l. let c = l .1 in absurd (omega arith)));
           noSuch = rw (r .0) ((λ e. (has-layout z, h)), (λ l. refl));
@@ -118,6 +143,7 @@ module _ (file : List ℕ) where
           refusedBy = exactly-when file .refusedBy;
           accepted = accepted-exactly-if file;
           nothingElse = exactly-when file .nothingElse;
+          inFile = place-in file;
           fileFirst = λ e. absurd (e z);
           answered = rw (r .0) ((λ e. (has-layout z, h)), (λ l. refl));
           noSuch = rw (r .0) ((λ (e : _≡_ {A = ℕ} 0 10). absurd (omega arith)), (λ l. let c = l .1 in absurd (omega arith)));

@@ -9,11 +9,8 @@ use borrow.Author.Tests.{eq-eqb, ne-eqb}
 use Rattle.layout.specs.Parts.{countOf, entryPlace, entryAt, endBefore, trianglePlace, triangleAt, trianglesOf}
 use Rattle.layout.specs.Rules.{isBadEntry, isSeen, isOutOfRange, isFlat, entryRule, triangleRule}
 use Rattle.layout.specs.Verdict.{Row, badLength, otherLength, badTrailer, badEntry, idAgain, wrongEnd, outOfRange, flat, numberOf, placeOf, test, idsBefore, inTurn, rows, firstOf, said, good, verdict}
+use Rattle.layout.specs.Stages.{orElse, atOr, trailerRows, tableRows, triangleRows, entryNumber, triangleNumber, ByRules}
 use Rattle.layout.specs.declared.Verdict.{Verdict}
-
--- the first of two that is a refusal
-abbrev pub orElse : Verdict → Verdict → Verdict
-orElse v w = cond (eqb (v .number) 0) w v
 
 pub refused : (v w : Verdict) → (v .number ≡ 0 → ⊥) → orElse v w ≡ v
 refused v w h = rw (ne-eqb (v .number) 0 h) refl
@@ -30,10 +27,6 @@ nonzero (idAgain i) e = omega arith
 nonzero wrongEnd e = omega arith
 nonzero (outOfRange k) e = omega arith
 nonzero (flat k) e = omega arith
-
--- a number at a place, or what comes after it
-abbrev pub atOr : ℕ → ℕ → Verdict → Verdict
-atOr number place rest = cond (eqb number 0) rest (said number place)
 
 module _ (file : List ℕ) where
   pub append : (xs ys : List Row) → firstOf file (xs ++ ys) ≡ orElse (firstOf file xs) (firstOf file ys)
@@ -75,36 +68,24 @@ module _ (file : List ℕ) where
     ended k i rest h = let q : k - i ≡ 0 = omega arith in rw q refl
 
   -- ---- of entries and of triangles
-  abbrev pub entryNumber : ℕ → ℕ
-  entryNumber i = entryRule (entryAt file i) (endBefore file i) (isSeen (entryAt file i .id) (idsBefore file i))
-
-  pub entry-says : (i : ℕ) (rest : List Row) → firstOf file (badEntry i ∷ idAgain i ∷ rest) ≡ atOr (entryNumber i) (entryPlace file i) (firstOf file rest)
+  pub entry-says : (i : ℕ) (rest : List Row) → firstOf file (badEntry i ∷ idAgain i ∷ rest) ≡ atOr (entryNumber file i) (entryPlace file i) (firstOf file rest)
   unfolding test placeOf entryRule
   entry-says i rest = pair (badEntry i) (idAgain i) rest (entryPlace file i) refl refl
 
-  abbrev pub triangleNumber : ℕ → ℕ
-  triangleNumber k = triangleRule (triangleAt file k)
-
-  pub triangle-says : (k : ℕ) (rest : List Row) → firstOf file (outOfRange k ∷ flat k ∷ rest) ≡ atOr (triangleNumber k) (trianglePlace k) (firstOf file rest)
+  pub triangle-says : (k : ℕ) (rest : List Row) → firstOf file (outOfRange k ∷ flat k ∷ rest) ≡ atOr (triangleNumber file k) (trianglePlace k) (firstOf file rest)
   unfolding test placeOf triangleRule
   triangle-says k rest = pair (outOfRange k) (flat k) rest (trianglePlace k) refl refl
 
   -- ---- the whole: trailer, table, triangles
-  abbrev pub trailerRows : List Row
-  trailerRows = badLength ∷ otherLength ∷ badTrailer ∷ []
-
-  abbrev pub tableRows : List Row
-  tableRows = inTurn badEntry idAgain (countOf file) 0 ++ (wrongEnd ∷ [])
-
-  abbrev pub triangleRows : List Row
-  triangleRows = inTurn outOfRange flat (trianglesOf file) 0
-
-  pub by-stages : verdict file ≡ orElse (firstOf file trailerRows) (orElse (firstOf file tableRows) (firstOf file triangleRows))
+  pub by-stages : verdict file ≡ orElse (firstOf file (trailerRows file)) (orElse (firstOf file (tableRows file)) (firstOf file (triangleRows file)))
   unfolding verdict rows
   by-stages =
-      append trailerRows (inTurn badEntry idAgain (countOf file) 0 ++ (wrongEnd ∷ triangleRows))
-      ∙ ap (orElse (firstOf file trailerRows)) (ap (firstOf file) (seam (inTurn badEntry idAgain (countOf file) 0) triangleRows) ∙ append tableRows triangleRows)
+      append (trailerRows file) (inTurn badEntry idAgain (countOf file) 0 ++ (wrongEnd ∷ triangleRows file))
+      ∙ ap (orElse (firstOf file (trailerRows file))) (ap (firstOf file) (seam (inTurn badEntry idAgain (countOf file) 0) (triangleRows file)) ∙ append (tableRows file) (triangleRows file))
     where
       seam : (xs ys : List Row) → xs ++ (wrongEnd ∷ ys) ≡ (xs ++ (wrongEnd ∷ [])) ++ ys
       seam [] ys = refl
       seam (x ∷ xs) ys = ap (x ∷_) (seam xs ys)
+
+pub by-rules : (file : List ℕ) → ByRules file
+by-rules file = record { byStages = by-stages file; entries = entry-says file; triangles = triangle-says file }

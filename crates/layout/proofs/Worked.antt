@@ -1,15 +1,18 @@
 -- The files worked by hand come out so: one computed test over the list, and what it says of each. Assumes nothing.
 use Prim.Native.Nat.{ℕ}
 use mathlib.Core.Path.{_≡_, refl, ap₂}
-use mathlib.Core.Bool.{Bool, _&&_}
+use mathlib.Core.Bool.{Bool, _&&_, or-true}
 use mathlib.Core.List.{List, List·Memᴰ}
-use lib.Dec.{T, eqb, eqb→eq}
+use lib.Dec.{T, eqb, ltb, eqb→eq}
+use lib.ListN.{length}
+use borrow.Author.Tests.{lt-ltb}
 use lib.Ieee.Fits.{and-l, and-r}
 use Rattle.floats.specs.Lists.{all}
 use Rattle.floats.proofs.Lists.{all-at, sameList, same-list}
-use Rattle.layout.specs.Verdict.{said, verdict}
+use Rattle.layout.specs.Verdict.{test, placeOf, firstOf, rows, said, verdict}
+use Rattle.layout.specs.Parts.{triangleAt}
 use Rattle.layout.specs.Recordings.{recordingOf, partOf}
-use Rattle.layout.specs.Worked.{Case, Shown, cases}
+use Rattle.layout.specs.Worked.{Case, Shown, cases, SecondTriangle, TooLong}
 use Rattle.layout.specs.declared.Verdict.{Verdict}
 use Rattle.layout.specs.declared.Recording.{Recording}
 
@@ -84,3 +87,12 @@ shown c t =
 
 pub worked : (c : Case) → List·Memᴰ c cases → Shown c
 worked c m = shown c (all-at right cases all-right m)
+
+pub second-triangle : SecondTriangle
+unfolding triangleAt
+second-triangle = refl
+
+-- the first row holds
+pub too-long : TooLong
+unfolding verdict rows firstOf test placeOf
+too-long file h = rw (lt-ltb 65536 (length file) h, or-true (ltb (length file) 12)) refl

@@ -1,11 +1,12 @@
 -- Of a good file: where a recording's part lies, what it holds, and that reading it is reading the file. Statements only.
-use Prim.Native.Nat.{ℕ, _+_, _*_, _<_, _≤_}
+use Prim.Native.Nat.{ℕ, zero, suc, _+_, _*_, _<_, _≤_}
 use mathlib.Core.Path.{_≡_}
-use mathlib.Core.List.{List, List·Memᴰ}
-use lib.ListN.{length}
+use mathlib.Core.List.{List, [], _++_, List·Memᴰ}
+use lib.ListN.{length, take}
 use lib.IntN.{ℤ, pos, natAbs}
-use lib.Ieee.{binary64, ofInt, toSigned}
-use Rattle.layout.specs.Bytes.{byteAt, i32At}
+use lib.Dec.{T}
+use lib.Ieee.{binary64, ofInt, inSigned, toSigned}
+use Rattle.layout.specs.Bytes.{byteAt, signed, i32At}
 use Rattle.layout.specs.Parts.{Triangle, numbersOf, tablePlace, countOf, entryAt, endOf, triangleFrom, triangleAt}
 use Rattle.layout.specs.Rules.{twiceArea}
 use Rattle.layout.specs.Layout.{Layout}
@@ -28,6 +29,16 @@ pub record Inside (file : List ℕ) (k : ℕ) : Type 0 where
 abbrev pub PartsInside : Type 0
 PartsInside = (file : List ℕ) (k : ℕ) → Layout file → k < countOf file → Inside file k
 
--- a coordinate in range becomes an f64 from which it comes back: it is unchanged
+-- the parts of the first n recordings, one after the other
+unfoldable pub partsTo : List ℕ → ℕ → List ℕ
+unfolding partOf
+partsTo file zero = []
+partsTo file (suc n) = partsTo file n ++ partOf file n
+
+-- all parts together are the bytes before the table: no triangle is lost, and none is in two recordings
+abbrev pub PartsJoined : Type 0
+PartsJoined = (file : List ℕ) → Layout file → partsTo file (countOf file) ≡ take (tablePlace file) file
+
+-- whatever 32 bits hold becomes an f64 that is a whole number, the same one
 abbrev pub Unchanged : Type 0
-Unchanged = (z : ℤ) → natAbs z ≤ 1000000 → toSigned 31 (ofInt binary64 z) ≡ z
+Unchanged = (v : ℕ) → v < 4294967296 → T (inSigned binary64 31 (ofInt binary64 (signed v))) × (toSigned 31 (ofInt binary64 (signed v)) ≡ signed v)

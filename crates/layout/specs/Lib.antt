@@ -2,6 +2,7 @@ pub mod Bytes
 pub mod Parts
 pub mod Rules
 pub mod Verdict
+pub mod Stages
 pub mod Layout
 pub mod Rows
 pub mod Recordings

@@ -1,5 +1,5 @@
--- 01, "The footprint file": what stands where. Places are byte offsets from the file's start; sums of places and lengths are sums of natural numbers, so they
--- are exact and never wrap. Definitions only.
+-- 01, "The footprint file": what stands where. A file is a list of bytes, a place a natural number, counted from the front; natural numbers have no largest, so a sum of them is the sum.
+-- Definitions only.
 use Prim.Native.Nat.{ℕ, zero, suc, _+_, _-_, _*_, _/_}
 use mathlib.Core.List.{List, [], _∷_}
 use lib.ListN.{length}

@@ -1,13 +1,14 @@
--- What each entry point promises of its result, for all bytes, and demand 1 of files, read off the promises. Statements only.
-use Prim.Native.Nat.{ℕ, _<_, _≤_}
+-- What each entry point promises of its result, for all bytes, and demands 1 and 2 of files, read off the promises. Statements only.
+use Prim.Native.Nat.{ℕ, _+_, _*_, _<_, _≤_}
 use mathlib.Core.Path.{_≡_}
 use mathlib.Core.Logic.{_⊎_, _↔_}
 use mathlib.Core.List.{List, []}
-use Rattle.layout.specs.Parts.{countOf}
+use lib.ListN.{length, take, drop}
+use Rattle.layout.specs.Parts.{countOf, entryAt}
 use Rattle.layout.specs.Verdict.{Row, numberOf, placeOf, said, good, verdict}
 use Rattle.layout.specs.Layout.{Layout}
 use Rattle.layout.specs.Rows.{First}
-use Rattle.layout.specs.Recordings.{recordingOf, partOf}
+use Rattle.layout.specs.Recordings.{unlessRefused, answered, recordingOf, partOf}
 use Rattle.layout.specs.declared.Verdict.{Verdict}
 use Rattle.layout.specs.declared.Recording.{Recording}
 
@@ -42,6 +43,8 @@ pub record Demand1 (file : List ℕ) (k : ℕ) (v : Verdict) (r : Recording) (pa
   pub refusedBy : (row : Row) → (v ≡ said (numberOf row) (placeOf file row)) ↔ First file row
   pub accepted : (v ≡ good) ↔ Layout file
   pub nothingElse : (v ≡ good) ⊎ ((row : Row) × (v ≡ said (numberOf row) (placeOf file row)))
+  -- the place lies in the file, or is its end
+  pub inFile : v .place ≤ length file
   -- a recording of a refused file has the file's number and place, whatever recording is asked for
   pub fileFirst : (v .number ≡ 0 → ⊥) → (r .number ≡ v .number) × (r .place ≡ v .place)
   -- of a good file a recording that there is is answered, any other refused with 10 at 0
@@ -52,6 +55,27 @@ pub record Demand1 (file : List ℕ) (k : ℕ) (v : Verdict) (r : Recording) (pa
   pub numbers : (r .number ≡ 0 → ⊥) → (10 ≤ r .number) × (r .number ≤ 18)
   pub zeros : (r .number ≡ 0 → ⊥) → Zeros r
   pub noPart : (r .number ≡ 0 → ⊥) → part ≡ []
+
+-- of a recording that was answered: its fields are the entry's, its part is in the file, and is the bytes that they tell
+pub record Demand2 (file : List ℕ) (k : ℕ) (r : Recording) (part : List ℕ) : Type 0 where
+  pub entry : r ≡ answered (entryAt file k)
+  pub someTriangles : 0 < r .count
+  pub knownSet : r .set ≤ 2
+  pub lastZero : r .last ≡ 0
+  pub inFile : r .first + 24 * r .count ≤ length file
+  pub bytes : part ≡ take (24 * r .count) (drop (r .first) file)
+  pub partLength : length part ≡ 24 * r .count
+
+-- whatever is asked, a refused file answers by its number and place alone
+abbrev pub FileFirst : Type 1
+FileFirst = (A : Type 0) (file : List ℕ) (refusedBy : Verdict → A) (answer : A) → (verdict file .number ≡ 0 → ⊥) → unlessRefused file refusedBy answer ≡ refusedBy (verdict file)
+
+abbrev pub ReturnedTwo : Type 0
+ReturnedTwo = (file : List ℕ) (k : ℕ) (r : Recording) (part : List ℕ) → Recorded file k r → Parted file k part → r .number ≡ 0 → Demand2 file k r part
+
+-- and a part with no bytes is one that was refused
+abbrev pub EmptyRefused : Type 0
+EmptyRefused = (file : List ℕ) (k : ℕ) (r : Recording) (part : List ℕ) → Recorded file k r → Parted file k part → part ≡ [] → r .number ≡ 0 → ⊥
 
 abbrev pub ReturnedOne : Type 0
 ReturnedOne = (file : List ℕ) (k : ℕ) (v : Verdict) (r : Recording) (part : List ℕ) → Checked file v → Recorded file k r → Parted file k part → Demand1 file k v r part

@@ -1,4 +1,4 @@
--- 01, "The footprint file": what is handed back of a recording, which is named by its number in the table. Definitions only.
+-- 01, "The footprint file": what is handed back of recording k, that of entry k. Definitions only.
 use Prim.Native.Nat.{ℕ, _*_}
 use mathlib.Core.Bool.{cond}
 use mathlib.Core.List.{List, []}
@@ -12,7 +12,7 @@ use Rattle.layout.specs.declared.Verdict.{Verdict}
 use Rattle.layout.specs.declared.Entry.{Entry}
 use Rattle.layout.specs.declared.Recording.{Recording}
 
--- whatever is asked of a file's bytes: a refused file answers by what is said of it, before anything else is looked at
+-- every question about a file goes through this: a refused file answers by what is said of it, and nothing else of it is looked at
 unfoldable pub unlessRefused : {A : Type 0} → List ℕ → (Verdict → A) → A → A
 unfolding verdict
 unlessRefused file refused answer = cond (eqb (verdict file .number) 0) answer (refused (verdict file))
@@ -25,7 +25,7 @@ refused v = record { number = v .number; place = v .place; id = 0; first = 0; co
 abbrev pub answered : Entry → Recording
 answered e = record { number = 0; place = 0; id = e .id; first = e .first; count = e .count; set = e .set; last = e .last }
 
--- a number not below the count is refusal 10, place 0, with an empty part
+-- what is said where there is no entry k
 abbrev pub noSuch : Verdict
 noSuch = said 10 0
 

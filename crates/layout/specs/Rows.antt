@@ -24,12 +24,12 @@ abbrev pub BadEntry : Entry → ℕ → Type 0
 BadEntry e end = (e .count ≡ 0) ⊎ (2 < e .set) ⊎ (e .last ≡ 0 → ⊥) ⊎ (e .first ≡ end → ⊥)
 
 -- an entry before entry i has its id
-abbrev pub IdSeen : List ℕ → ℕ → Type 0
-IdSeen file i = (j : ℕ) × (j < i) × (entryAt file j .id ≡ entryAt file i .id)
+abbrev pub IdSeen : (ℕ → ℕ) → ℕ → Type 0
+IdSeen idOf i = (j : ℕ) × (j < i) × (idOf j ≡ idOf i)
 
 -- the last entry does not end at the table, or there is none and the table is not at 0
-abbrev pub WrongEnd : List ℕ → Type 0
-WrongEnd file = ((i : ℕ) × (i + 1 ≡ countOf file) × (endOf (entryAt file i) ≡ tablePlace file → ⊥)) ⊎ ((countOf file ≡ 0) × (tablePlace file ≡ 0 → ⊥))
+abbrev pub WrongEnd : (ℕ → ℕ) → ℕ → ℕ → Type 0
+WrongEnd endOfEntry count table = ((i : ℕ) × (i + 1 ≡ count) × (endOfEntry i ≡ table → ⊥)) ⊎ ((count ≡ 0) × (table ≡ 0 → ⊥))
 
 abbrev pub OutOfRange : Triangle → Type 0
 OutOfRange t = (z : ℤ) × List·Memᴰ z (numbersOf t) × (1000000 < natAbs z)
@@ -43,8 +43,8 @@ Applies file badLength = BadLength (length file)
 Applies file otherLength = OtherLength (storedLength file) (length file)
 Applies file badTrailer = BadTrailer (tablePlace file) (countOf file) (length file)
 Applies file (badEntry i) = (i < countOf file) × BadEntry (entryAt file i) (endBefore file i)
-Applies file (idAgain i) = (i < countOf file) × IdSeen file i
-Applies file wrongEnd = WrongEnd file
+Applies file (idAgain i) = (i < countOf file) × IdSeen (λ j. entryAt file j .id) i
+Applies file wrongEnd = WrongEnd (λ i. endOf (entryAt file i)) (countOf file) (tablePlace file)
 Applies file (outOfRange k) = (24 * k + 24 ≤ tablePlace file) × OutOfRange (triangleAt file k)
 Applies file (flat k) = (24 * k + 24 ≤ tablePlace file) × Flat (triangleAt file k)
 

@@ -22,7 +22,7 @@ isOtherLength stored length = not (eqb stored length)
 abbrev pub isBadTrailer : ℕ → ℕ → ℕ → Bool
 isBadTrailer table count length = ltb 64 count || not (eqb (table + 12 * count + 12) length)
 
--- 14: count zero, set over 2, last byte not zero, or the first triangle is not where the one before ended
+-- 14: no triangles, a set that there is not, something in the last byte, or a beginning that is not `end`, where the entry before ended
 unfoldable pub isBadEntry : Entry → ℕ → Bool
 isBadEntry e end = eqb (e .count) 0 || (ltb 2 (e .set) || (not (eqb (e .last) 0) || not (eqb (e .first) end)))
 
@@ -31,7 +31,7 @@ unfoldable pub isSeen : ℕ → List ℕ → Bool
 unfolding any
 isSeen id before = any (eqb id) before
 
--- 15: the last triangle, or 0 where there are no recordings, does not end at the table
+-- 15: the end of the last entry's triangles, or 0 if there is no entry, is not the table's place
 abbrev pub isWrongEnd : ℕ → ℕ → Bool
 isWrongEnd end table = not (eqb end table)
 
@@ -51,7 +51,7 @@ unfoldable pub isFlat : Triangle → Bool
 unfolding twiceArea
 isFlat t = isNought (twiceArea t)
 
--- the number of an entry that stands where the triangles before it end, its id seen or not: 14 before 16, or 0
+-- the number of an entry, by where the entry before ended and by whether its id was seen: 14 before 16, or 0
 unfoldable pub entryRule : Entry → ℕ → Bool → ℕ
 unfolding isBadEntry
 entryRule e end seen = cond (isBadEntry e end) 14 (cond seen 16 0)

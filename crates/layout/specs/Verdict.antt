@@ -28,7 +28,7 @@ numberOf wrongEnd = 15
 numberOf (outOfRange k) = 17
 numberOf (flat k) = 18
 
--- number 0 and place 0: a good file
+-- a number and a place; 0 and 0 of a good file
 abbrev pub said : ℕ → ℕ → Verdict
 said number place = record { number = number; place = place }
 

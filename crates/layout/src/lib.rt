@@ -101,7 +101,7 @@ pub fn triangle_rule(x0: i32, y0: i32, x1: i32, y1: i32, x2: i32, y2: i32) -> u3
     0
 }
 
-// The number of an entry, where the triangles before it end at `end` and its id is among theirs or not: 14, 16 or 0.
+// The number of an entry, where the entry before ended at `end` and the id was seen in an earlier entry or not: 14, 16 or 0.
 pub fn entry_rule(e: Entry, end: u32, seen: bool) -> u32
     ensures { λ r. ⌜ r ≡ entryRule e end seen ⌝ }
 {

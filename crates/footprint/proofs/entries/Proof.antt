@@ -6,7 +6,8 @@ use mathlib.Core.List.{[], _∷_, _++_}
 use denote.Ref.{now}
 use Rattle.layout.specs.Parts.{endBefore, entryFrom, entryPlace}
 use Rattle.layout.specs.Verdict.{badEntry, idAgain, wrongEnd, inTurn, firstOf}
-use Rattle.layout.proofs.Stages.{tableRows, entryNumber, entry-says, stops, goes-on, ended}
+use Rattle.layout.specs.Stages.{tableRows, entryNumber}
+use Rattle.layout.proofs.Stages.{entry-says, stops, goes-on, ended}
 use Rattle.footprint.proofs.Table.{place-is, entry-is, number-is, end-is, at-start, wrong-end, right-end}
 use Rattle.footprint.proofs.entries.Statement.{statement}
 use Rattle.footprint.proofs.entries.Tie as tie

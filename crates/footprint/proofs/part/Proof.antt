@@ -1,7 +1,11 @@
 use borrow.Author.Needs.{needs}
 use native.Mathlib.Omega.{arith}
 use denote.Ref.{now}
-use Rattle.footprint.proofs.Recorded.{Answered, answered-of, no-part, part-is}
+use mathlib.Core.Path.{refl}
+use Rattle.layout.specs.Recordings.{partOf}
+use Rattle.layout.specs.Promise.{Demand2}
+use Rattle.layout.proofs.Answered.{returned-two}
+use Rattle.footprint.proofs.Recorded.{no-part, part-is}
 use Rattle.footprint.proofs.part.Statement.{statement}
 use Rattle.footprint.proofs.part.Tie as tie
 use Rattle.footprint.proofs.part.Reads as reads
@@ -9,8 +13,8 @@ use Rattle.footprint.proofs.part.Lts as lts
 use Rattle.footprint.proofs.part_end.Reads as part-end-reads
 use Rattle.footprint.proofs.recording.Reads as recording-reads
 
-told : (c : tie.Else1) → Answered (now (c .before .before .before .before .args .file)) (c .before .before .before .before .args .k) (c .before .before .recording .result)
-told c = answered-of _ _ (c .before .before .recording .ensures) (c .if1 .left)
+told : (c : tie.Else1) → Demand2 (now (c .before .before .before .before .args .file)) (c .before .before .before .before .args .k) (c .before .before .recording .result) (partOf (now (c .before .before .before .before .args .file)) (c .before .before .before .before .args .k))
+told c = returned-two _ _ _ _ (c .before .before .recording .ensures) refl (c .if1 .left)
 
 -- src/lib.rt:283:9
 recording-requires : tie.Need-recording-requires

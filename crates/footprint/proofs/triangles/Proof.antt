@@ -6,7 +6,8 @@ use mathlib.Core.List.{[], _++_}
 use denote.Ref.{now}
 use Rattle.layout.specs.Parts.{trianglePlace}
 use Rattle.layout.specs.Verdict.{outOfRange, flat, inTurn, firstOf}
-use Rattle.layout.proofs.Stages.{triangleRows, triangleNumber, triangle-says, stops, goes-on, ended}
+use Rattle.layout.specs.Stages.{triangleRows, triangleNumber}
+use Rattle.layout.proofs.Stages.{triangle-says, stops, goes-on, ended}
 use Rattle.footprint.proofs.Judge.{from-start, triangle-number}
 use Rattle.footprint.proofs.triangles.Statement.{statement}
 use Rattle.footprint.proofs.triangles.Tie as tie
