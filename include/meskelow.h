@@ -1,16 +1,17 @@
-/* Meskelow: the intersection of two triangles, proved bit for bit against its rules (docs/RULES.md).
+/* Meskelow: the intersection of two triangles, and the reader of footprint files, proved against their rules (docs/RULES.md).
  *
  * Link target/staticlib/libmeskelow.a, which `rt staticlib meskelow` makes: x86-64 Linux code that calls nothing but the C
  * library's memcpy, allocates nothing, keeps no state and may be called from any number of threads at once.
  *
- * What is proved (docs/PROMISES.md names each theorem): whatever numbers and lengths are passed, every call ends and returns
- * exactly the answer of the rules, in every bit of every field and of the room; nothing is read or written outside the two
- * slices; nothing is written beyond the first 2n values of the room, and nothing at all by a call that is refused. Not
- * proved: the compiler's back end, memcpy, and the caller.
+ * What is proved (docs/PROMISES.md names each theorem): whatever numbers, bytes and lengths are passed, every call ends and
+ * returns exactly the answer of the rules, in every bit of every field and of the room; nothing is read or written outside the
+ * slices that are lent; nothing is written beyond the first 2n values of the room, and nothing at all by a call that is
+ * refused or that is lent a file. Not proved: the compiler's back end, memcpy, and the caller.
  *
- * What is left to the caller: `values_len` and `room_len` are true, so that so many doubles may be read, and in the room
- * read and written; the two do not overlap; and the processor rounds to nearest and keeps subnormal values, as it does
- * unless a program asks otherwise. A length of 0 goes with any pointer, NULL too. */
+ * What is left to the caller: the lengths are true, so that so many doubles or bytes may be read, and in the room read and
+ * written; values and room do not overlap; nobody writes to what is lent before the call has returned; and the processor
+ * rounds to nearest and keeps subnormal values, as it does unless a program asks otherwise. A length of 0 goes with any
+ * pointer, NULL too. */
 #ifndef MESKELOW_H
 #define MESKELOW_H
 
@@ -43,6 +44,41 @@ typedef struct {
 /* values: U0x, U0y, U1x, U1y, U2x, U2y, V0x, V0y, V1x, V1y, V2x, V2y. V is the reference: with U and V exchanged rounding may
  * give another answer. Either orientation of either triangle will do. */
 meskelow_answer meskelow_intersect(const double *values, size_t values_len, double *room, size_t room_len);
+
+/* Footprint files: README.md has the format. A file is lent whole, as the bytes that it has; what cannot be read is not a
+ * file, and reading it is the caller's. */
+
+typedef struct {
+    uint32_t number;   /* 0: the file has the format. Else the first refusal that applies:
+                        *  11  under 12 bytes, or over 65,536
+                        *  12  the stored length is not the file's
+                        *  13  over 64 recordings, or table and trailer do not end with the file
+                        *  14  an entry: no triangles, set over 2, last byte not zero, or not where the one before ended
+                        *  15  the last triangle does not end at the table
+                        *  16  an entry's id was there before
+                        *  17  a coordinate is out of range
+                        *  18  a triangle has no area
+                        * entries are judged before 15, each for 14 and then for 16; triangles last, each for 17 and then 18 */
+    uint32_t place;    /* where: the byte offset of the trailer (13), entry (14, 16), table (15) or triangle (17, 18), else 0 */
+} meskelow_verdict;
+
+meskelow_verdict meskelow_check(const uint8_t *file, size_t file_len);
+
+typedef struct {
+    uint32_t number;   /* 0: an answer. Else the file's own refusal, or of a good file
+                        *  10  k is not below the count of recordings
+                        * and every field below place is zero */
+    uint32_t place;    /* the file's own, or 0 */
+    uint32_t id;       /* of an answer, the table entry: id, */
+    uint32_t first;    /* place of the first triangle, */
+    uint32_t count;    /* count of triangles, one at least, */
+    uint32_t set;      /* 0 training, 1 test, 2 held back, */
+    uint32_t last;     /* and the entry's last byte, zero today */
+} meskelow_entry;
+
+/* Recording k of the file, from 0. Its triangles are the 24 * count bytes from file + first on, which lie in the file: six
+ * little-endian int32_t each, x and y of three vertices in whole centimetres. Every call judges the whole file first. */
+meskelow_entry meskelow_recording(const uint8_t *file, size_t file_len, size_t k);
 
 #ifdef __cplusplus
 }
