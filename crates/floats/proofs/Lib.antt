@@ -2,3 +2,4 @@ pub mod Lists
 pub mod Told
 pub mod Zero
 pub mod Same
+pub mod First

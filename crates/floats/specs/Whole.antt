@@ -1,6 +1,6 @@
 -- Whole numbers, in which every operation is exact, as numbers that the rules can be written over. Definitions only.
 use mathlib.Core.Bool.{Bool, true, false}
-use Prim.Native.Nat.{ℕ, zero, suc}
+use Prim.Native.Nat.{zero, suc}
 use lib.IntN.{ℤ, pos, negsuc, negℤ, _-ℤ_, _*ℤ_}
 use Rattle.floats.specs.Numbers.{Numbers}
 

@@ -1,7 +1,7 @@
 -- The reader's three stages make the verdict, and what a passed trailer says of the file lets it read on. Assumes nothing.
 use Prim.Native.Nat.{ℕ, _+_, _-_, _*_, _/_, _≤_}
 use mathlib.Core.Path.{_≡_, refl, sym, ap, _∙_}
-use mathlib.Core.Bool.{Bool, true, false, not, _||_, cond, false≢true}
+use mathlib.Core.Bool.{Bool, true, false, not, cond}
 use mathlib.Core.List.{List, [], _++_, append-nil}
 use native.Mathlib.Omega.{arith}
 use lib.Dec.{ltb, eqb}
@@ -9,12 +9,13 @@ use lib.ListN.{length, List·getD-eq-default}
 use lib.IntN.{ℤ}
 use borrow.Author.Tests.{ltb-false, eqb-true, not-false}
 use Rattle.layout.specs.Bytes.{four, u16At, u32At, byteAt}
-use Rattle.layout.specs.Parts.{Triangle, triangleOf, tablePlace, countOf, storedLength, entryFrom, triangleFrom, triangleAt, trianglesOf}
+use Rattle.layout.specs.Parts.{triangleOf, tablePlace, countOf, storedLength, entryFrom, triangleFrom, triangleAt, trianglesOf}
 use Rattle.layout.specs.Verdict.{outOfRange, flat, inTurn, test, placeOf, firstOf, said, good, verdict}
 use Rattle.layout.specs.Rules.{isBadLength, isOtherLength, isBadTrailer, triangleRule}
 use Rattle.layout.specs.declared.Verdict.{Verdict}
 use Rattle.layout.specs.declared.Entry.{Entry}
-use Rattle.layout.specs.Stages.{orElse, trailerRows, tableRows, triangleRows, triangleNumber}
+use Rattle.layout.specs.Stages.{trailerRows, tableRows, triangleRows, triangleNumber}
+use Rattle.layout.proofs.Cross.{neither}
 use Rattle.layout.proofs.Stages.{refused, passed, by-stages}
 
 -- ---- a passed trailer
@@ -29,10 +30,6 @@ none true b c p h = absurd (omega arith)
 none false true c p h = absurd (omega arith)
 none false false true p h = absurd (omega arith)
 none false false false p h = (refl, refl)
-
-neither : (a b : Bool) → (a || b) ≡ false → (a ≡ false) × (b ≡ false)
-neither true b h = (h, absurd (false≢true (sym h)))
-neither false b h = (refl, h)
 
 fits : (file : List ℕ) → firstOf file (trailerRows file) .number ≡ 0 → Fits file
 unfolding firstOf test placeOf

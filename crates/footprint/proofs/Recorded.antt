@@ -4,11 +4,11 @@ use mathlib.Core.Path.{_≡_, refl, sym, ap, _∙_}
 use mathlib.Core.List.{List, []}
 use native.Mathlib.Omega.{arith}
 use native.Mathlib.Nat.{add-sub-cancel-left}
-use lib.ListN.{length, take, drop}
-use Rattle.layout.specs.Parts.{countOf, entryAt, endOf}
+use lib.ListN.{take, drop}
+use Rattle.layout.specs.Parts.{countOf, entryAt}
 use Rattle.layout.specs.Verdict.{said, verdict}
 use Rattle.layout.specs.Layout.{Layout}
-use Rattle.layout.specs.Recordings.{refused, answered, noSuch, bytesOf, recordingOf, partOf}
+use Rattle.layout.specs.Recordings.{refused, answered, noSuch, recordingOf, partOf}
 use Rattle.layout.specs.Promise.{Demand2}
 use Rattle.layout.specs.declared.Verdict.{Verdict}
 use Rattle.layout.specs.declared.Entry.{Entry}

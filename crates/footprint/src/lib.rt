@@ -1,10 +1,9 @@
 // The reader of footprint files. `check` judges a file's bytes; whatever else is asked of a file asks it first.
 ghost use mathlib.Core.Path.{_≡_};
-ghost use mathlib.Core.List.{_∷_, []};
 ghost use Prim.Native.Nat.{_+_, _-_, _*_, _≤_, _<_};
 ghost use lib.ListN.{length};
 ghost use Rattle.layout.specs.Bytes.{two as twoOf, four as fourOf, byteAt, u16At, u32At, i32At};
-ghost use Rattle.layout.specs.Parts.{entryFrom, entryPlace, tablePlace, countOf, triangleFrom};
+ghost use Rattle.layout.specs.Parts.{entryFrom, tablePlace, countOf, triangleFrom};
 ghost use Rattle.layout.specs.Rules.{isSeen, triangleRule};
 ghost use Rattle.layout.specs.Verdict.{idsBefore, firstOf, said, good};
 ghost use Rattle.layout.specs.Recordings.{refused as refusedAs, f64At};

@@ -1,5 +1,4 @@
 -- Demand 2 of files: what is returned of a recording that is answered is its entry, and the part is where that says. Assumes nothing.
-use Prim.Native.Nat.{ℕ}
 use mathlib.Core.Path.{_≡_, refl, ap, _∙_}
 use native.Mathlib.Omega.{arith}
 use lib.ListN.{length}

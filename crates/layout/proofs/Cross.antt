@@ -1,5 +1,5 @@
 -- The cross of a triangle in range, as 64-bit numbers compute it, is exact: differences stay within 2,000,000, products within 4·10^12. Assumes nothing.
-use Prim.Native.Nat.{ℕ, _≤_}
+use Prim.Native.Nat.{_≤_}
 use mathlib.Core.Path.{_≡_, refl, sym, ap, ap₂, _∙_}
 use mathlib.Core.Bool.{Bool, true, false, _||_, false≢true}
 use lib.Dec.{lit<, eqb}
@@ -83,7 +83,7 @@ pub of-triangle : (f : Triangle → Bool) {x0 y0 x1 y1 x2 y2 : ℤ} {r : Bool} (
 of-triangle f b h0 h1 h2 h3 h4 h5 p q = sym (ap f (same-triangle h0 h1 h2 h3 h4 h5)) ∙ (sym p ∙ q)
 
 -- of a triangle in range no number is far
-neither : (a b : Bool) → (a || b) ≡ false → (a ≡ false) × (b ≡ false)
+pub neither : (a b : Bool) → (a || b) ≡ false → (a ≡ false) × (b ≡ false)
 neither true b h = absurd (false≢true (sym h))
 neither false b h = (refl, h)
 

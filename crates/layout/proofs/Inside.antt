@@ -1,25 +1,23 @@
 -- Recordings lie end to end from 0 to the table, so each begins at a multiple of 24 and ends before the table; and a byte of a part is the file's byte that many places further on. Assumes nothing.
 use Prim.Native.Nat.{ℕ, zero, suc, _+_, _-_, _*_, _<_, _≤_, _^_}
 use mathlib.Core.Path.{_≡_, refl, sym, ap, ap₂, subst, _∙_}
-use mathlib.Core.Logic.{_⊎_, ⊎-elim}
 use mathlib.Core.Bool.{Bool, true, false, cond}
 use mathlib.Core.List.{List, _++_, List·Memᴰ}
 use native.Mathlib.Omega.{arith}
-use native.Mathlib.Nat.{eq-or-lt-of-le, add-assoc}
-use lib.ListN.{length, take, drop, getD, length-take, length-drop}
+use native.Mathlib.Nat.{add-assoc}
+use lib.ListN.{length, take, drop, length-drop}
 use lib.Seq.{getD-take, getD-drop, length-take-le, take-add}
 use lib.Dec.{T, ltb, le→leb, lt→ltb}
 use borrow.Author.Tests.{ltb-true, ltb-false, lt-ltb}
-use lib.IntN.{ℤ, pos, negsuc, natAbs, _-ℤ_}
+use lib.IntN.{pos, _-ℤ_}
 use lib.Ieee.{binary64, ofInt, inFloat, inSigned, toSigned}
 use lib.Ieee.Back.{positive-back, negative-back}
 use Rattle.layout.specs.Bytes.{byteAt, u32At, signed, i32At}
-use Rattle.layout.specs.Parts.{Triangle, numbersOf, tablePlace, countOf, entryAt, endOf, endBefore, triangleFrom, triangleAt}
+use Rattle.layout.specs.Parts.{numbersOf, tablePlace, countOf, entryAt, endOf, endBefore, triangleFrom, triangleAt}
 use Rattle.layout.specs.Rules.{twiceArea}
 use Rattle.layout.specs.Layout.{Layout}
 use Rattle.layout.specs.Recordings.{bytesOf, partOf, f64At}
 use Rattle.layout.specs.Inside.{Inside, PartsInside, partsTo, PartsJoined, Unchanged}
-use Rattle.layout.specs.declared.Entry.{Entry}
 use Rattle.layout.proofs.Returned.{is-good, there-is}
 
 -- ---- a part of a list of bytes

@@ -1,21 +1,22 @@
 -- No second answer fits, and demand 1 of files, each read off the promises. Assumes nothing.
 use Prim.Native.Nat.{ℕ, _+_, _*_, _<_, _≤_}
-use mathlib.Core.Path.{_≡_, refl, sym, ap, subst, _∙_}
-use mathlib.Core.Logic.{_⊎_, inl, inr, ⊎-elim, _↔_}
-use mathlib.Core.Bool.{Bool, true, false, cond}
+use mathlib.Core.Path.{_≡_, refl, sym, ap, _∙_}
+use mathlib.Core.Logic.{_⊎_, inl, inr, ⊎-elim}
+use mathlib.Core.Bool.{Bool, true, false}
 use mathlib.Core.List.{List, []}
 use native.Mathlib.Omega.{arith}
 use lib.Dec.{eqb, ltb}
 use borrow.Author.Tests.{eq-eqb, ne-eqb, eqb-true, eqb-false, lt-ltb, le-ltb, ltb-true, ltb-false}
 use lib.ListN.{length}
 use Rattle.layout.specs.Parts.{tablePlace, countOf, entryPlace, entryAt}
-use Rattle.layout.specs.Verdict.{Row, badLength, otherLength, badTrailer, badEntry, idAgain, wrongEnd, outOfRange, flat, numberOf, placeOf, said, good, verdict}
+use Rattle.layout.specs.Verdict.{Row, badLength, otherLength, badTrailer, badEntry, idAgain, wrongEnd, outOfRange, flat, numberOf, placeOf, good, verdict}
 use Rattle.layout.specs.Layout.{Layout}
 use Rattle.layout.specs.Rows.{Applies, First}
 use Rattle.layout.specs.Recordings.{unlessRefused, refused, answered, noSuch, bytesOf, recordingOf, partOf}
 use Rattle.layout.specs.Promise.{NoSecondAnswer, FileFirst, Zeros, Demand1, ReturnedOne}
 use Rattle.layout.specs.declared.Verdict.{Verdict}
 use Rattle.layout.specs.declared.Recording.{Recording}
+use Rattle.layout.proofs.Tests.{in-table}
 use Rattle.layout.proofs.Rows.{exactly-when}
 use Rattle.layout.proofs.Accepted.{same, accepted-exactly-if}
 
@@ -30,17 +31,6 @@ file-first A file f answer h = rw (ne-eqb (verdict file .number) 0 h) refl
 pub not-refused : {A : Type 0} (file : List ℕ) (f : Verdict → A) (answer : A) → verdict file .number ≡ 0 → unlessRefused file f answer ≡ answer
 unfolding unlessRefused
 not-refused file f answer h = rw (eq-eqb (verdict file .number) 0 h) refl
-
--- ---- a number of 11 to 18 beside every refusal of a file
-in-table : (row : Row) → (11 ≤ numberOf row) × (numberOf row ≤ 18)
-in-table badLength = (omega arith, omega arith)
-in-table otherLength = (omega arith, omega arith)
-in-table badTrailer = (omega arith, omega arith)
-in-table (badEntry i) = (omega arith, omega arith)
-in-table (idAgain i) = (omega arith, omega arith)
-in-table wrongEnd = (omega arith, omega arith)
-in-table (outOfRange k) = (omega arith, omega arith)
-in-table (flat k) = (omega arith, omega arith)
 
 -- ---- the place lies in the file
 trailer-fits : (file : List ℕ) → (Applies file badTrailer → ⊥) → tablePlace file + 12 * countOf file + 12 ≡ length file

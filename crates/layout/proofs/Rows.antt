@@ -1,10 +1,10 @@
 -- What is said of a file is what its first row that applies says, and good if none does: the list of rows is searched from its front, and each row in it has its own
 -- number and place. Assumes nothing.
-use Prim.Native.Nat.{ℕ, zero, suc, _+_, _-_, _*_, _/_, _<_, _≤_}
+use Prim.Native.Nat.{ℕ, _+_, _-_, _*_, _/_, _<_}
 use mathlib.Core.Path.{_≡_, refl, sym, ap, ap₂, subst, _∙_}
-use mathlib.Core.Logic.{_⊎_, inl, inr, ⊎-elim, _↔_}
+use mathlib.Core.Logic.{_⊎_, inl, inr, ⊎-elim}
 use mathlib.Core.Bool.{Bool, true, false, cond, false≢true}
-use mathlib.Core.List.{List, [], _∷_, _++_, List·Memᴰ, List·Memᴰ·head as here, List·Memᴰ·tail as there, List·Memᴰ·cases-cons, List·Memᴰ·not-nil, List·Memᴰ·append-cases}
+use mathlib.Core.List.{List, [], _∷_, _++_, List·Memᴰ, List·Memᴰ·head as here, List·Memᴰ·tail as there, List·Memᴰ·cases-cons, List·Memᴰ·append-cases}
 use native.Mathlib.Omega.{arith}
 use native.Mathlib.Nat.{eq-or-lt-of-le}
 use lib.Dec.{eqb, ltb}
@@ -14,7 +14,8 @@ use Rattle.layout.specs.Parts.{tablePlace, entryPlace}
 use Rattle.layout.specs.Verdict.{Row, badLength, otherLength, badTrailer, badEntry, idAgain, wrongEnd, outOfRange, flat, numberOf, placeOf, test, rows, firstOf, said, good, verdict}
 use Rattle.layout.specs.Rows.{Applies, stageOf, turnOf, Before, First, ExactlyWhen}
 use Rattle.layout.specs.declared.Verdict.{Verdict}
-use Rattle.layout.proofs.Tests.{Exists, applies}
+use Rattle.floats.proofs.First.{NoneOf, Leads, search-first, none-found, found}
+use Rattle.layout.proofs.Tests.{nonzero, applies}
 use Rattle.layout.proofs.Order.{listed, exists, not-after}
 
 -- ---- a row is known by its stage and turn
@@ -100,79 +101,38 @@ module _ (file : List ℕ) where
   not-good : (row : Row) → saying row ≡ good → ⊥
   unfolding saying
   not-good row h = nonzero row (ap (λ (v : Verdict). v .number) h)
-    where
-      nonzero : (row : Row) → numberOf row ≡ 0 → ⊥
-      nonzero badLength e = omega arith
-      nonzero otherLength e = omega arith
-      nonzero badTrailer e = omega arith
-      nonzero (badEntry i) e = omega arith
-      nonzero (idAgain i) e = omega arith
-      nonzero wrongEnd e = omega arith
-      nonzero (outOfRange k) e = omega arith
-      nonzero (flat k) e = omega arith
 
-  -- ---- the first of a list of rows whose test holds
-  NoneOf : List Row → Type 0
-  NoneOf list = (row : Row) → List·Memᴰ row list → test file row ≡ false
+  -- ---- what is found along a list of rows
+  nil : firstOf file [] ≡ good
+  unfolding firstOf
+  nil = refl
 
-  record Leads (list : List Row) : Type 0 where
-    before : List Row
-    row : Row
-    after : List Row
-    split : list ≡ before ++ (row ∷ after)
-    holding : test file row ≡ true
-    none : NoneOf before
-    says : firstOf file list ≡ saying row
-
-  record Passes (list : List Row) : Type 0 where
-    none : NoneOf list
-    says : firstOf file list ≡ good
-
-  none-more : (row : Row) (list : List Row) → test file row ≡ false → NoneOf list → NoneOf (row ∷ list)
-  unfolding NoneOf
-  none-more row list e n r m = ⊎-elim (λ (q : r ≡ row). ap (test file) q ∙ e) (n r) (List·Memᴰ·cases-cons m)
-
-  search-rows : (list : List Row) → Passes list ⊎ Leads list
-  unfolding firstOf NoneOf saying
-  search-rows [] = inl (record { none = λ row m. absurd (List·Memᴰ·not-nil m); says = refl })
-  search-rows (row ∷ list) = go (test file row) refl (search-rows list)
-    where
-      go : (b : Bool) → test file row ≡ b → Passes list ⊎ Leads list → Passes (row ∷ list) ⊎ Leads (row ∷ list)
-      go true e rest = inr (record { before = []; row = row; after = list; split = refl; holding = e; none = λ r m. absurd (List·Memᴰ·not-nil m); says = rw e refl })
-      go false e (inl p) = inl (record { none = none-more row list e (p .none); says = rw e (p .says) })
-      go false e (inr r) = inr (record {
-        before = row ∷ r .before;
-        row = r .row;
-        after = r .after;
-        split = ap (row ∷_) (r .split);
-        holding = r .holding;
-        none = none-more row (r .before) e (r .none);
-        says = rw e (r .says);
-      })
+  cons : (row : Row) (list : List Row) → firstOf file (row ∷ list) ≡ cond (test file row) (saying row) (firstOf file list)
+  unfolding firstOf saying
+  cons row list = refl
 
   -- ---- the file's rows
   fails : (row : Row) → test file row ≡ false → Applies file row → ⊥
   fails row e a = false≢true (sym e ∙ applies file row .1 a .1)
 
-  no-row : Passes (rows file) → (row : Row) → Applies file row → ⊥
-  unfolding NoneOf
-  no-row p row a = fails row (p .none row (listed file row (applies file row .1 a .0))) a
+  no-row : NoneOf (test file) (rows file) → (row : Row) → Applies file row → ⊥
+  no-row n row a = fails row (n row (listed file row (applies file row .1 a .0))) a
 
-  first-row : (r : Leads (rows file)) → First file (r .row)
-  first-row r = record { applies = applies file (r .row) .0 (exists file (r .row) (rw (r .split) (mid (r .before))), r .holding); noneBefore = earlier }
+  first-row : (r : Leads (test file) (rows file)) → First file (r .one)
+  first-row r = record { applies = applies file (r .one) .0 (exists file (r .one) (rw (r .split) (mid (r .before))), r .holding); noneBefore = earlier }
     where
-      mid : (before : List Row) → List·Memᴰ (r .row) (before ++ (r .row ∷ r .after))
+      mid : (before : List Row) → List·Memᴰ (r .one) (before ++ (r .one ∷ r .after))
       mid [] = here refl
       mid (x ∷ xs) = there (mid xs)
 
-      place : (e : Row) → Before e (r .row) → Applies file e → List·Memᴰ e (r .before) ⊎ List·Memᴰ e (r .row ∷ r .after) → ⊥
-      place e b a (inl k) = unfold NoneOf in fails e (r .none e k) a
+      place : (e : Row) → Before e (r .one) → Applies file e → List·Memᴰ e (r .before) ⊎ List·Memᴰ e (r .one ∷ r .after) → ⊥
+      place e b a (inl k) = fails e (r .none e k) a
       place e b a (inr k) = ⊎-elim
-          (λ (q : e ≡ r .row). let same = subst (λ x. Before x (r .row)) q b in not-both (r .row) (r .row) same same)
-          (λ w. not-both e (r .row) b (not-after file (r .before) (r .row) (r .after) (r .split) e w))
+          (λ (q : e ≡ r .one). let same = subst (λ x. Before x (r .one)) q b in not-both (r .one) (r .one) same same)
+          (λ w. not-both e (r .one) b (not-after file (r .before) (r .one) (r .after) (r .split) e w))
           (List·Memᴰ·cases-cons k)
 
-      earlier : (e : Row) → Before e (r .row) → Applies file e → ⊥
+      earlier : (e : Row) → Before e (r .one) → Applies file e → ⊥
       earlier e b a = place e b a (List·Memᴰ·append-cases (r .before) (subst (List·Memᴰ e) (r .split) (listed file e (applies file e .1 a .0))))
 
   only-first : (a b : Row) → First file a → First file b → a ≡ b
@@ -181,19 +141,19 @@ module _ (file : List ℕ) where
   -- each refusal exactly when its row is the first that applies
   pub exactly-when : ExactlyWhen file
   unfolding verdict saying
-  exactly-when = go (search-rows (rows file))
+  exactly-when = go (search-first (test file) (rows file))
     where
-      go : Passes (rows file) ⊎ Leads (rows file) → ExactlyWhen file
-      go (inl p) = record {
-        refusedBy = λ row. ((λ h. absurd (not-good row (sym h ∙ p .says))), (λ f. absurd (no-row p row (f .applies))));
-        accepted = ((λ h. no-row p), (λ h. p .says));
-        nothingElse = inl (p .says);
+      go : NoneOf (test file) (rows file) ⊎ Leads (test file) (rows file) → ExactlyWhen file
+      go (inl n) = let says = none-found (test file) saying good (firstOf file) nil cons (rows file) n in record {
+        refusedBy = λ row. ((λ h. absurd (not-good row (sym h ∙ says))), (λ f. absurd (no-row n row (f .applies))));
+        accepted = ((λ h. no-row n), (λ h. says));
+        nothingElse = inl says;
       }
-      go (inr r) = record {
+      go (inr r) = let says = found (test file) saying good (firstOf file) nil cons r in record {
         refusedBy = λ row. (
-          (λ h. subst (First file) (same-row (r .row) row (sym (r .says) ∙ h)) (first-row r)),
-          (λ f. r .says ∙ ap saying (only-first (r .row) row (first-row r) f)),
+          (λ h. subst (First file) (same-row (r .one) row (sym says ∙ h)) (first-row r)),
+          (λ f. says ∙ ap saying (only-first (r .one) row (first-row r) f)),
         );
-        accepted = ((λ h. absurd (not-good (r .row) (sym (r .says) ∙ h))), (λ h. absurd (h (r .row) (first-row r .applies))));
-        nothingElse = inr (r .row, r .says);
+        accepted = ((λ h. absurd (not-good (r .one) (sym says ∙ h))), (λ h. absurd (h (r .one) (first-row r .applies))));
+        nothingElse = inr (r .one, says);
       }

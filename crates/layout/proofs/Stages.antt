@@ -1,32 +1,22 @@
 -- The verdict stage by stage, as a reader comes to it: what the rows of a thing say together is its rule's number at its place, and one thing after the other is looked at. Assumes nothing.
-use Prim.Native.Nat.{ℕ, zero, suc, _+_, _-_, _<_, _≤_}
-use mathlib.Core.Path.{_≡_, refl, sym, ap, ap₂, subst, _∙_}
+use Prim.Native.Nat.{ℕ, suc, _+_, _-_, _<_, _≤_}
+use mathlib.Core.Path.{_≡_, refl, sym, ap, _∙_}
 use mathlib.Core.Bool.{Bool, true, false, cond}
 use mathlib.Core.List.{List, [], _∷_, _++_}
 use native.Mathlib.Omega.{arith}
-use lib.Dec.{eqb}
 use borrow.Author.Tests.{eq-eqb, ne-eqb}
-use Rattle.layout.specs.Parts.{countOf, entryPlace, entryAt, endBefore, trianglePlace, triangleAt, trianglesOf}
-use Rattle.layout.specs.Rules.{isBadEntry, isSeen, isOutOfRange, isFlat, entryRule, triangleRule}
-use Rattle.layout.specs.Verdict.{Row, badLength, otherLength, badTrailer, badEntry, idAgain, wrongEnd, outOfRange, flat, numberOf, placeOf, test, idsBefore, inTurn, rows, firstOf, said, good, verdict}
+use Rattle.layout.specs.Parts.{countOf, entryPlace, trianglePlace}
+use Rattle.layout.specs.Rules.{entryRule, triangleRule}
+use Rattle.layout.specs.Verdict.{Row, badEntry, idAgain, wrongEnd, outOfRange, flat, numberOf, placeOf, test, inTurn, rows, firstOf, said, verdict}
 use Rattle.layout.specs.Stages.{orElse, atOr, trailerRows, tableRows, triangleRows, entryNumber, triangleNumber, ByRules}
 use Rattle.layout.specs.declared.Verdict.{Verdict}
+use Rattle.layout.proofs.Tests.{nonzero}
 
 pub refused : (v w : Verdict) → (v .number ≡ 0 → ⊥) → orElse v w ≡ v
 refused v w h = rw (ne-eqb (v .number) 0 h) refl
 
 pub passed : (v w : Verdict) → v .number ≡ 0 → orElse v w ≡ w
 passed v w h = rw (eq-eqb (v .number) 0 h) refl
-
-nonzero : (row : Row) → numberOf row ≡ 0 → ⊥
-nonzero badLength e = omega arith
-nonzero otherLength e = omega arith
-nonzero badTrailer e = omega arith
-nonzero (badEntry i) e = omega arith
-nonzero (idAgain i) e = omega arith
-nonzero wrongEnd e = omega arith
-nonzero (outOfRange k) e = omega arith
-nonzero (flat k) e = omega arith
 
 module _ (file : List ℕ) where
   pub append : (xs ys : List Row) → firstOf file (xs ++ ys) ≡ orElse (firstOf file xs) (firstOf file ys)

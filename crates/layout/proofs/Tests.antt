@@ -1,22 +1,36 @@
 -- Each row of the refusal table exists and its test holds exactly if the row applies. Assumes nothing.
-use Prim.Native.Nat.{ℕ, zero, suc, _+_, _-_, _*_, _/_, _<_, _≤_}
+use Prim.Native.Nat.{ℕ, zero, suc, _+_, _*_, _<_, _≤_}
 use mathlib.Core.Path.{_≡_, refl, sym, ap, subst, _∙_}
 use mathlib.Core.Logic.{_⊎_, inl, inr, ⊎-elim, _↔_}
-use mathlib.Core.Bool.{Bool, true, false, not, _||_, cond, false≢true, or-true}
+use mathlib.Core.Bool.{Bool, true, false, not, _||_, false≢true, or-true}
 use mathlib.Core.List.{List, [], _∷_, List·Memᴰ, List·Memᴰ·head as here, List·Memᴰ·tail as there, List·Memᴰ·cases-cons, List·Memᴰ·not-nil}
 use native.Mathlib.Omega.{arith}
-use native.Mathlib.Nat.{eq-or-lt-of-le, eq-zero-or-pos}
+use native.Mathlib.Nat.{eq-or-lt-of-le}
 use lib.Dec.{T, eqb, ltb}
 use lib.IntN.{ℤ, pos, negsuc, natAbs}
 use lib.ListN.{length}
-use borrow.Author.Tests.{eqb-true, eqb-false, eq-eqb, ne-eqb, ltb-true, ltb-false, lt-ltb, not-true, not-false}
+use borrow.Author.Tests.{eqb-true, eqb-false, eq-eqb, ne-eqb, ltb-true, lt-ltb, not-true}
 use Rattle.floats.specs.Lists.{any}
 use Rattle.floats.specs.Whole.{isNought}
 use Rattle.layout.specs.Parts.{Triangle, numbersOf, tablePlace, countOf, storedLength, entryAt, endBefore, endOf, triangleAt}
-use Rattle.layout.specs.Rules.{isBadLength, isOtherLength, isBadTrailer, isBadEntry, isSeen, isWrongEnd, isFar, isOutOfRange, twiceArea, isFlat}
-use Rattle.layout.specs.Verdict.{Row, badLength, otherLength, badTrailer, badEntry, idAgain, wrongEnd, outOfRange, flat, idsBefore, test}
-use Rattle.layout.specs.Rows.{BadLength, OtherLength, BadTrailer, BadEntry, OutOfRange, Flat, Applies}
+use Rattle.layout.specs.Rules.{isBadLength, isBadTrailer, isBadEntry, isSeen, isWrongEnd, isFar, isOutOfRange, twiceArea, isFlat}
+use Rattle.layout.specs.Verdict.{Row, badLength, otherLength, badTrailer, badEntry, idAgain, wrongEnd, outOfRange, flat, numberOf, idsBefore, test}
+use Rattle.layout.specs.Rows.{BadLength, BadTrailer, BadEntry, OutOfRange, Flat, Applies}
 use Rattle.layout.specs.declared.Entry.{Entry}
+
+-- the numbers of the table
+pub in-table : (row : Row) → (11 ≤ numberOf row) × (numberOf row ≤ 18)
+in-table badLength = (omega arith, omega arith)
+in-table otherLength = (omega arith, omega arith)
+in-table badTrailer = (omega arith, omega arith)
+in-table (badEntry i) = (omega arith, omega arith)
+in-table (idAgain i) = (omega arith, omega arith)
+in-table wrongEnd = (omega arith, omega arith)
+in-table (outOfRange k) = (omega arith, omega arith)
+in-table (flat k) = (omega arith, omega arith)
+
+pub nonzero : (row : Row) → numberOf row ≡ 0 → ⊥
+nonzero row e = omega (arith, in-table row .0)
 
 -- a test holds exactly if a predicate does
 abbrev pub Tells : Bool → Type 0 → Type 0

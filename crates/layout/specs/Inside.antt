@@ -7,7 +7,7 @@ use lib.IntN.{ℤ, pos, natAbs}
 use lib.Dec.{T}
 use lib.Ieee.{binary64, ofInt, inSigned, toSigned}
 use Rattle.layout.specs.Bytes.{byteAt, signed, i32At}
-use Rattle.layout.specs.Parts.{Triangle, numbersOf, tablePlace, countOf, entryAt, endOf, triangleFrom, triangleAt}
+use Rattle.layout.specs.Parts.{numbersOf, tablePlace, countOf, entryAt, endOf, triangleFrom, triangleAt}
 use Rattle.layout.specs.Rules.{twiceArea}
 use Rattle.layout.specs.Layout.{Layout}
 use Rattle.layout.specs.Recordings.{partOf, f64At}

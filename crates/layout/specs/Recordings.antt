@@ -7,7 +7,7 @@ use lib.ListN.{take, drop}
 use lib.Ieee.{Float, binary64, ofInt}
 use Rattle.layout.specs.Bytes.{i32At}
 use Rattle.layout.specs.Parts.{countOf, entryAt}
-use Rattle.layout.specs.Verdict.{said, good, verdict}
+use Rattle.layout.specs.Verdict.{said, verdict}
 use Rattle.layout.specs.declared.Verdict.{Verdict}
 use Rattle.layout.specs.declared.Entry.{Entry}
 use Rattle.layout.specs.declared.Recording.{Recording}

@@ -1,8 +1,8 @@
 -- A row's test holds exactly if the row applies, so the cascade's number is that of the first row that applies. Assumes nothing.
 use mathlib.Core.Path.{_≡_, refl, sym, ap, subst, _∙_}
 use mathlib.Core.Logic.{_⊎_, inl, inr, _↔_}
-use mathlib.Core.Bool.{Bool, true, false, not, _||_, false≢true, or-true}
-use mathlib.Core.List.{List, [], _∷_, _++_, List·Memᴰ, List·Memᴰ·head as here, List·Memᴰ·tail as there, List·Memᴰ·cases-cons, List·Memᴰ·not-nil}
+use mathlib.Core.Bool.{Bool, true, false, not, _||_, cond, false≢true, or-true}
+use mathlib.Core.List.{List, [], _∷_, _++_, List·Memᴰ, List·Memᴰ·head as here, List·Memᴰ·tail as there}
 use Prim.Native.Nat.{ℕ, zero, suc, _<_}
 use native.Mathlib.Omega.{arith}
 use lib.Dec.{eqb, ltb}
@@ -12,6 +12,7 @@ use lib.Ieee.{Float}
 use borrow.Author.Tests.{eqb-true, eqb-false, eq-eqb, ne-eqb, ltb-true, ltb-false, lt-ltb, not-true}
 use Rattle.floats.specs.Lists.{all}
 use Rattle.floats.specs.Finite.{finite}
+use Rattle.floats.proofs.First.{NoneOf, Leads, search-first, none-found, found}
 use Rattle.floats.proofs.Lists.{fails-at, fails-all}
 use Rattle.triangles.specs.Refusals.{Row, lengths, coordinates, wayToD, dZero, wayToE, eZero, wayToParameter, wayToPairTest, wayToPosition, wayToArea, table, numberOf, wayOf, notAllFinite, rowTest, firstOf, refusalOf}
 use Rattle.triangles.specs.Answers.{wholeOf, refused, answered, answerOf}
@@ -45,49 +46,21 @@ test-applies wayToPairTest l room = finite-test (wayOf wayToPairTest l)
 test-applies wayToPosition l room = finite-test (wayOf wayToPosition l)
 test-applies wayToArea l room = finite-test (wayOf wayToArea l)
 
--- ---- the first of a list of rows whose test holds
+-- ---- what is found along a list of rows
 module _ (l room : List Float) where
-  NoneOf : List Row → Type 0
-  NoneOf rows = (row : Row) → List·Memᴰ row rows → rowTest row l room ≡ false
+  holds : Row → Bool
+  holds row = rowTest row l room
 
-  record Leads (rows : List Row) : Type 0 where
-    before : List Row
-    row : Row
-    after : List Row
-    split : rows ≡ before ++ (row ∷ after)
-    holding : rowTest row l room ≡ true
-    none : NoneOf before
-    number : firstOf rows l room ≡ numberOf row
+  number : List Row → ℕ
+  number rows = firstOf rows l room
 
-  record Passes (rows : List Row) : Type 0 where
-    none : NoneOf rows
-    number : firstOf rows l room ≡ 0
+  nil : number [] ≡ 0
+  unfolding number firstOf
+  nil = refl
 
-  none-more : (row : Row) (rows : List Row) → rowTest row l room ≡ false → NoneOf rows → NoneOf (row ∷ rows)
-  unfolding NoneOf
-  none-more row rows e n r m = go (List·Memᴰ·cases-cons m)
-    where
-      go : (r ≡ row) ⊎ List·Memᴰ r rows → rowTest r l room ≡ false
-      go (inl q) = ap (λ z. rowTest z l room) q ∙ e
-      go (inr k) = n r k
-
-  search-rows : (rows : List Row) → Passes rows ⊎ Leads rows
-  unfolding firstOf NoneOf
-  search-rows [] = inl (record { none = λ row m. absurd (List·Memᴰ·not-nil m); number = refl })
-  search-rows (row ∷ rows) = go (rowTest row l room) refl (search-rows rows)
-    where
-      go : (b : Bool) → rowTest row l room ≡ b → Passes rows ⊎ Leads rows → Passes (row ∷ rows) ⊎ Leads (row ∷ rows)
-      go true e rest = inr (record { before = []; row = row; after = rows; split = refl; holding = e; none = λ r m. absurd (List·Memᴰ·not-nil m); number = rw e refl })
-      go false e (inl p) = inl (record { none = none-more row rows e (p .none); number = rw e (p .number) })
-      go false e (inr r) = inr (record {
-        before = row ∷ r .before;
-        row = r .row;
-        after = r .after;
-        split = ap (row ∷_) (r .split);
-        holding = r .holding;
-        none = none-more row (r .before) e (r .none);
-        number = rw e (r .number);
-      })
+  cons : (row : Row) (rows : List Row) → number (row ∷ rows) ≡ cond (holds row) (numberOf row) (number rows)
+  unfolding number firstOf holds
+  cons row rows = refl
 
 -- ---- the table: each row stands at its place
 at-rank : (row : Row) → getD table (rankOf row) lengths ≡ row
@@ -156,15 +129,24 @@ module _ (l room : List Float) where
   fails : (row : Row) → rowTest row l room ≡ false → Applies row l room → ⊥
   fails row h a = false≢true (sym h ∙ test-applies row l room .1 a)
 
-  first-row : (r : Leads l room table) → First (r .row) l room
+  first-row : (r : Leads (holds l room) table) → First (r .one) l room
+  unfolding holds
   first-row r = record {
-    applies = test-applies (r .row) l room .0 (r .holding);
-    noneBefore = λ e h. unfold NoneOf in fails e (r .none e (lower-before (r .before) (r .row) (r .after) (r .split) e h));
+    applies = test-applies (r .one) l room .0 (r .holding);
+    noneBefore = λ e h. fails e (r .none e (lower-before (r .before) (r .one) (r .after) (r .split) e h));
   }
 
-  no-row : Passes l room table → NoRow l room
-  unfolding NoneOf
-  no-row p row a = fails row (p .none row (in-table row)) a
+  no-row : NoneOf (holds l room) table → NoRow l room
+  unfolding holds
+  no-row n row a = fails row (n row (in-table row)) a
+
+  passed : NoneOf (holds l room) table → firstOf table l room ≡ 0
+  unfolding number
+  passed n = none-found (holds l room) numberOf 0 (number l room) (nil l room) (cons l room) table n
+
+  led : (r : Leads (holds l room) table) → firstOf table l room ≡ numberOf (r .one)
+  unfolding number
+  led r = found (holds l room) numberOf 0 (number l room) (nil l room) (cons l room) r
 
   -- two rows that are both first are the same place
   one-first : (a b : Row) → First a l room → First b l room → rankOf a ≡ rankOf b
@@ -192,27 +174,27 @@ module _ (l room : List Float) where
 
   by-row : (k : ℕ) → (k ≡ 0 → ⊥) → (refusalOf l room ≡ k) ↔ RefusedBy k l room
   unfolding refusalOf
-  by-row k nz = (to (search-rows l room table), from (search-rows l room table))
+  by-row k nz = (to (search-first (holds l room) table), from (search-first (holds l room) table))
     where
-      to : Passes l room table ⊎ Leads l room table → firstOf table l room ≡ k → RefusedBy k l room
-      to (inl p) h = absurd (nz (sym h ∙ p .number))
-      to (inr r) h = (r .row, first-row r, sym (r .number) ∙ h)
+      to : NoneOf (holds l room) table ⊎ Leads (holds l room) table → firstOf table l room ≡ k → RefusedBy k l room
+      to (inl p) h = absurd (nz (sym h ∙ passed p))
+      to (inr r) h = (r .one, first-row r, sym (led r) ∙ h)
 
-      from : Passes l room table ⊎ Leads l room table → RefusedBy k l room → firstOf table l room ≡ k
+      from : NoneOf (holds l room) table ⊎ Leads (holds l room) table → RefusedBy k l room → firstOf table l room ≡ k
       from (inl p) f = absurd (no-row p (f .0) (f .1 .applies))
-      from (inr r) f = r .number ∙ (ap numberOf (same-row (r .row) (f .0) (one-first (r .row) (f .0) (first-row r) (f .1))) ∙ f .2)
+      from (inr r) f = led r ∙ (ap numberOf (same-row (r .one) (f .0) (one-first (r .one) (f .0) (first-row r) (f .1))) ∙ f .2)
 
   pub by-none : (refusalOf l room ≡ 0) ↔ NoRow l room
   unfolding refusalOf
-  by-none = (to (search-rows l room table), from (search-rows l room table))
+  by-none = (to (search-first (holds l room) table), from (search-first (holds l room) table))
     where
-      to : Passes l room table ⊎ Leads l room table → firstOf table l room ≡ 0 → NoRow l room
+      to : NoneOf (holds l room) table ⊎ Leads (holds l room) table → firstOf table l room ≡ 0 → NoRow l room
       to (inl p) h = no-row p
-      to (inr r) h = absurd (nonzero (r .row) (sym (r .number) ∙ h))
+      to (inr r) h = absurd (nonzero (r .one) (sym (led r) ∙ h))
 
-      from : Passes l room table ⊎ Leads l room table → NoRow l room → firstOf table l room ≡ 0
-      from (inl p) f = p .number
-      from (inr r) f = absurd (f (r .row) (first-row r .applies))
+      from : NoneOf (holds l room) table ⊎ Leads (holds l room) table → NoRow l room → firstOf table l room ≡ 0
+      from (inl p) f = passed p
+      from (inr r) f = absurd (f (r .one) (first-row r .applies))
 
   -- ---- the whole answer
   pub refused-is : (refusalOf l room ≡ 0 → ⊥) → wholeOf l room ≡ refused (refusalOf l room) room

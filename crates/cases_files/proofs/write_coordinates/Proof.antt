@@ -4,12 +4,6 @@ use lib.ListN.{length}
 use borrow.Author.Needs.{needs}
 use Rattle.cases_files.proofs.write_coordinates.Statement.{statement}
 use Rattle.cases_files.proofs.write_coordinates.Tie as tie
-use Rattle.cases_files.proofs.write_coordinates.Reads as reads
-use Rattle.cases_files.proofs.write_coordinates.Lts as lts
-use Rattle.cases_files.proofs.bits_of.Reads as bits-of-reads
-use Rattle.footprint.proofs.f64_at.Reads as f64-at-reads
-use Rattle.io.proofs.print_hex.Reads as print-hex-reads
-use Rattle.io.proofs.write_all.Reads as write-all-reads
 
 abbrev Inv-loop : tie.InvT-loop
 Inv-loop part j₀ t3 j = j ≤ length part / 4
@@ -17,47 +11,36 @@ Inv-loop part j₀ t3 j = j ≤ length part / 4
 abbrev μ-loop : tie.MeasureT-loop
 μ-loop part j₀ t3 j = length part / 4 - j
 
--- src/main.rt:86:5
 loop-holds : tie.Need-loop-holds Inv-loop μ-loop
 loop-holds c = search needs
 
--- src/main.rt:87:26
 slice-aggregate-write-all : tie.Need-slice-aggregate-write-all Inv-loop μ-loop
 slice-aggregate-write-all c = search needs
 
--- src/main.rt:87:9
 write-all-requires : tie.Need-write-all-requires Inv-loop μ-loop
 write-all-requires c κs = search needs
 
--- src/main.rt:88:58
 mul-f64-at : tie.Need-mul-f64-at Inv-loop μ-loop
 mul-f64-at c = search needs
 
--- src/main.rt:88:34
 f64-at-requires : tie.Need-f64-at-requires Inv-loop μ-loop
 f64-at-requires c κs = search needs
 
--- src/main.rt:88:26
 bits-of-requires : tie.Need-bits-of-requires Inv-loop μ-loop
 bits-of-requires c κs = search needs
 
--- src/main.rt:88:9
 print-hex-requires : tie.Need-print-hex-requires Inv-loop μ-loop
 print-hex-requires c κs = search needs
 
--- src/main.rt:89:9
 add-j : tie.Need-add-j Inv-loop μ-loop
 add-j c = search needs
 
--- src/main.rt:86:5
 loop-less : tie.Need-loop-less Inv-loop μ-loop
 loop-less c = search needs
 
--- src/main.rt:86:5
 loop-again : tie.Need-loop-again Inv-loop μ-loop
 loop-again c = search needs
 
--- src/main.rt:84:1
 returns : tie.Need-returns Inv-loop μ-loop
 returns c = search needs
 

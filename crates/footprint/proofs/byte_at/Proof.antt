@@ -1,21 +1,17 @@
+-- Beyond the end a byte counts as 0.
 use mathlib.Core.Path.{sym}
 use denote.Ref.{now}
 use lib.ListN.{List·getD-eq-default}
 use borrow.Author.Needs.{needs}
 use Rattle.footprint.proofs.byte_at.Statement.{statement}
 use Rattle.footprint.proofs.byte_at.Tie as tie
-use Rattle.footprint.proofs.byte_at.Reads as reads
-use Rattle.footprint.proofs.byte_at.Lts as lts
 
--- src/lib.rt:274:16
 shared-slice-read-result : tie.Need-shared-slice-read-result
 shared-slice-read-result c = search needs
 
--- src/lib.rt:274:9
 returns : tie.Need-returns
 returns c = search needs
 
--- src/lib.rt:270:1
 returns-2 : tie.Need-returns-2
 returns-2 c = sym (List·getD-eq-default (now (c .before .args .bytes)) 0 (c .if1 .left))
 

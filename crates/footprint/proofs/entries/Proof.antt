@@ -1,3 +1,4 @@
+-- Before each turn the entries that are left say what all say, and `end` is where those before end.
 use borrow.Author.Needs.{needs}
 use native.Mathlib.Omega.{arith}
 use Prim.Native.Nat.{_≤_, _*_, _-_}
@@ -11,14 +12,6 @@ use Rattle.layout.proofs.Stages.{entry-says, stops, goes-on, ended}
 use Rattle.footprint.proofs.Table.{place-is, entry-is, number-is, end-is, at-start, wrong-end, right-end}
 use Rattle.footprint.proofs.entries.Statement.{statement}
 use Rattle.footprint.proofs.entries.Tie as tie
-use Rattle.footprint.proofs.entries.Reads as reads
-use Rattle.footprint.proofs.entries.Lts as lts
-use Rattle.footprint.proofs.acceptance.Reads as acceptance-reads
-use Rattle.footprint.proofs.entry_in.Reads as entry-in-reads
-use Rattle.footprint.proofs.entry_place.Reads as entry-place-reads
-use Rattle.footprint.proofs.is_seen.Reads as is-seen-reads
-use Rattle.footprint.proofs.refusal.Reads as refusal-reads
-use Rattle.layout.proofs.entry_rule.Reads as entry-rule-reads
 
 abbrev Inv-loop : tie.InvT-loop
 Inv-loop file table count i₀ end₀ i end = (i ≤ count) × (end ≤ 1572840 * i) × (end ≡ endBefore file i) × (firstOf file (tableRows file) ≡ firstOf file (inTurn badEntry idAgain (count - i) i ++ (wrongEnd ∷ [])))
@@ -26,31 +19,24 @@ Inv-loop file table count i₀ end₀ i end = (i ≤ count) × (end ≤ 1572840 
 abbrev μ-loop : tie.MeasureT-loop
 μ-loop file table count i₀ end₀ i end = count - i
 
--- src/lib.rt:159:5
 loop-holds : tie.Need-loop-holds Inv-loop μ-loop
 loop-holds c = (omega arith, omega arith, unfold endBefore in refl, at-start _ (c .before .pre .2))
 
--- src/lib.rt:160:13
 entry-place-requires : tie.Need-entry-place-requires Inv-loop μ-loop
 entry-place-requires c κs = search needs
 
--- src/lib.rt:161:13
 entry-in-requires : tie.Need-entry-in-requires Inv-loop μ-loop
 entry-in-requires c κs = search needs
 
--- src/lib.rt:162:13
 is-seen-requires : tie.Need-is-seen-requires Inv-loop μ-loop
 is-seen-requires c κs = search needs
 
--- src/lib.rt:163:13
 entry-rule-requires : tie.Need-entry-rule-requires Inv-loop μ-loop
 entry-rule-requires c κs = search needs
 
--- src/lib.rt:165:13
 refusal-requires : tie.Need-refusal-requires Inv-loop μ-loop
 refusal-requires c κs = search needs
 
--- src/lib.rt:165:13
 returns : tie.Need-returns Inv-loop μ-loop
 returns c =
     let r = c .before .before in
@@ -62,23 +48,18 @@ returns c =
     let number = number-is file (b .pre .1) (l .i) (e .entry-in .result) (l .end) (r .before .is-seen .result) (e .entry-in .ensures .0 ∙ ap (entryFrom file) at) (l .inv .2) (r .before .is-seen .ensures) (r .entry-rule .ensures) in
     c .refusal .ensures ∙ (stops file badEntry idAgain (entryNumber file) (entryPlace file) (entry-says file) (b .args .count) (l .i) (wrongEnd ∷ []) (e .before .before .loop-test .taken) number (at ∙ place-is file (b .pre .1) (l .i)) (c .before .if1 .taken) ∙ sym (l .inv .3))
 
--- src/lib.rt:167:21
 mul-end : tie.Need-mul-end Inv-loop μ-loop
 mul-end c = search needs
 
--- src/lib.rt:167:15
 add-end : tie.Need-add-end Inv-loop μ-loop
 add-end c = search needs
 
--- src/lib.rt:168:13
 add-i : tie.Need-add-i Inv-loop μ-loop
 add-i c = search needs
 
--- src/lib.rt:159:5
 loop-less : tie.Need-loop-less Inv-loop μ-loop
 loop-less c = search needs
 
--- src/lib.rt:159:5
 loop-again : tie.Need-loop-again Inv-loop μ-loop
 loop-again c =
     let t = c .before .before in
@@ -95,15 +76,12 @@ loop-again c =
       l .inv .3 ∙ goes-on file badEntry idAgain (entryNumber file) (entryPlace file) (entry-says file) (b .args .count) (l .i) (wrongEnd ∷ []) (e .before .before .loop-test .taken) number z,
     )
 
--- src/lib.rt:170:8
 cast-if2 : tie.Need-cast-if2 Inv-loop μ-loop
 cast-if2 c = search needs
 
--- src/lib.rt:171:9
 refusal-requires-2 : tie.Need-refusal-requires-2 Inv-loop μ-loop
 refusal-requires-2 c κs = search needs
 
--- src/lib.rt:171:9
 returns-2 : tie.Need-returns-2 Inv-loop μ-loop
 returns-2 c =
     let h = c .before .before .loop-test .left in
@@ -112,11 +90,9 @@ returns-2 c =
     let file = now (b .args .file) in
     c .refusal2 .ensures ∙ (wrong-end file (b .pre .2) (b .pre .1) (l .inv .2) (l .inv .0) h (c .before .if2 .taken) ∙ sym (l .inv .3 ∙ ended file badEntry idAgain (entryNumber file) (entryPlace file) (entry-says file) (b .args .count) (l .i) (wrongEnd ∷ []) h))
 
--- src/lib.rt:173:5
 acceptance-requires : tie.Need-acceptance-requires Inv-loop μ-loop
 acceptance-requires c κs = search needs
 
--- src/lib.rt:153:1
 returns-3 : tie.Need-returns-3 Inv-loop μ-loop
 returns-3 c =
     let h = c .before .before .loop-test .left in

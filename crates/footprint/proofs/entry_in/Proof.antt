@@ -1,59 +1,43 @@
+-- Five numbers, each read at its place in the entry.
 use denote.Ref.{now}
 use Rattle.footprint.proofs.Judge.{entry-read}
 use borrow.Author.Needs.{needs}
 use Rattle.footprint.proofs.entry_in.Statement.{statement}
 use Rattle.footprint.proofs.entry_in.Tie as tie
-use Rattle.footprint.proofs.entry_in.Reads as reads
-use Rattle.footprint.proofs.entry_in.Lts as lts
-use Rattle.footprint.proofs.u16_in.Reads as u16-in-reads
-use Rattle.footprint.proofs.u32_in.Reads as u32-in-reads
-use Rattle.footprint.proofs.wide.Reads as wide-reads
 
--- src/lib.rt:58:9
 u32-in-requires : tie.Need-u32-in-requires
 u32-in-requires c κs = search needs
 
--- src/lib.rt:59:30
 add-u32-in : tie.Need-add-u32-in
 add-u32-in c = search needs
 
--- src/lib.rt:59:9
 u32-in-requires-2 : tie.Need-u32-in-requires-2
 u32-in-requires-2 c κs = search needs
 
--- src/lib.rt:60:30
 add-u16-in : tie.Need-add-u16-in
 add-u16-in c = search needs
 
--- src/lib.rt:60:9
 u16-in-requires : tie.Need-u16-in-requires
 u16-in-requires c κs = search needs
 
--- src/lib.rt:61:25
 add-wide : tie.Need-add-wide
 add-wide c = search needs
 
--- src/lib.rt:61:20
 shared-slice-read-wide : tie.Need-shared-slice-read-wide
 shared-slice-read-wide c = search needs
 
--- src/lib.rt:61:9
 wide-requires : tie.Need-wide-requires
 wide-requires c κs = search needs
 
--- src/lib.rt:62:26
 add-wide-2 : tie.Need-add-wide-2
 add-wide-2 c = search needs
 
--- src/lib.rt:62:21
 shared-slice-read-wide-2 : tie.Need-shared-slice-read-wide-2
 shared-slice-read-wide-2 c = search needs
 
--- src/lib.rt:62:9
 wide-requires-2 : tie.Need-wide-requires-2
 wide-requires-2 c κs = search needs
 
--- src/lib.rt:54:1
 returns : tie.Need-returns
 returns c =
     let n = c .before .before .before .before in

@@ -1,3 +1,4 @@
+-- An i32 becomes the f64 of the same whole number.
 use mir.ValLaws.{toZ-ofZ}
 use mir.Syntax.{w32}
 use borrow.Author.Needs.{sfits-of}
@@ -7,19 +8,13 @@ use Rattle.layout.specs.Recordings.{f64At}
 use borrow.Author.Needs.{needs}
 use Rattle.footprint.proofs.f64_at.Statement.{statement}
 use Rattle.footprint.proofs.f64_at.Tie as tie
-use Rattle.footprint.proofs.f64_at.Reads as reads
-use Rattle.footprint.proofs.f64_at.Lts as lts
-use Rattle.footprint.proofs.i32_at.Reads as i32-at-reads
 
--- src/lib.rt:304:5
 i32-at-requires : tie.Need-i32-at-requires
 i32-at-requires c κs = search needs
 
--- src/lib.rt:304:5
 int-to-float-result : tie.Need-int-to-float-result
 int-to-float-result c = search needs
 
--- src/lib.rt:301:1
 returns : tie.Need-returns
 unfolding f64At
 returns c = ap (ofInt binary64) (toZ-ofZ w32 _ (sfits-of {z = c .before .i32-at .result} (c .before .i32-at .ok)) ∙ c .before .i32-at .ensures)

@@ -1,3 +1,4 @@
+-- The number is that of the four bytes.
 use mir.ValLaws.{toZ-ofZ}
 use mir.Syntax.{w32}
 use borrow.Author.Needs.{sfits-of}
@@ -6,20 +7,13 @@ use Rattle.layout.specs.Bytes.{signed, i32At}
 use borrow.Author.Needs.{needs}
 use Rattle.footprint.proofs.i32_in.Statement.{statement}
 use Rattle.footprint.proofs.i32_in.Tie as tie
-use Rattle.footprint.proofs.i32_in.Reads as reads
-use Rattle.footprint.proofs.i32_in.Lts as lts
-use Rattle.footprint.proofs.u32_in.Reads as u32-in-reads
-use Rattle.layout.proofs.signed.Reads as signed-reads
 
--- src/lib.rt:45:20
 u32-in-requires : tie.Need-u32-in-requires
 u32-in-requires c κs = search needs
 
--- src/lib.rt:45:5
 signed-requires : tie.Need-signed-requires
 signed-requires c κs = search needs
 
--- src/lib.rt:41:1
 returns : tie.Need-returns
 unfolding i32At
 returns c = toZ-ofZ w32 _ (sfits-of {z = c .signed .result} (c .signed .ok)) ∙ (c .signed .ensures ∙ ap signed (c .before .u32-in .ensures))

@@ -1,3 +1,4 @@
+-- The ids before entry i are looked at from the last to the first; those that are left decide the rest.
 use native.Mathlib.Omega.{arith}
 use Prim.Native.Nat.{_≤_}
 use mathlib.Core.Path.{_≡_, sym, ap, _∙_}
@@ -9,10 +10,6 @@ use Rattle.layout.specs.Verdict.{idsBefore}
 use Rattle.footprint.proofs.Table.{seen-here, seen-before, seen-none}
 use Rattle.footprint.proofs.is_seen.Statement.{statement}
 use Rattle.footprint.proofs.is_seen.Tie as tie
-use Rattle.footprint.proofs.is_seen.Reads as reads
-use Rattle.footprint.proofs.is_seen.Lts as lts
-use Rattle.footprint.proofs.entry_place.Reads as entry-place-reads
-use Rattle.footprint.proofs.u32_in.Reads as u32-in-reads
 
 abbrev Inv-loop : tie.InvT-loop
 Inv-loop file table i id j₀ j = (j ≤ i) × (isSeen id (idsBefore file i) ≡ isSeen id (idsBefore file j))
@@ -20,23 +17,18 @@ Inv-loop file table i id j₀ j = (j ≤ i) × (isSeen id (idsBefore file i) ≡
 abbrev μ-loop : tie.MeasureT-loop
 μ-loop file table i id j₀ j = j
 
--- src/lib.rt:100:5
 loop-holds : tie.Need-loop-holds Inv-loop μ-loop
 loop-holds c = search needs
 
--- src/lib.rt:101:13
 sub-j : tie.Need-sub-j Inv-loop μ-loop
 sub-j c = search needs
 
--- src/lib.rt:102:25
 entry-place-requires : tie.Need-entry-place-requires Inv-loop μ-loop
 entry-place-requires c κs = search needs
 
--- src/lib.rt:102:12
 u32-in-requires : tie.Need-u32-in-requires Inv-loop μ-loop
 u32-in-requires c κs = search needs
 
--- src/lib.rt:103:13
 returns : tie.Need-returns Inv-loop μ-loop
 returns c =
     let p = c .before .before in
@@ -45,11 +37,9 @@ returns c =
     let file = now (b .args .file) in
     seen-here file (b .pre .1) (l .j) (b .args .id) (p .before .loop-test .taken) (c .before .u32-in .ensures ∙ ap (u32At file) (p .entry-place .ensures)) (c .if1 .taken) ∙ sym (l .inv .1)
 
--- src/lib.rt:100:5
 loop-less : tie.Need-loop-less Inv-loop μ-loop
 loop-less c = search needs
 
--- src/lib.rt:100:5
 loop-again : tie.Need-loop-again Inv-loop μ-loop
 loop-again c =
     let p = c .before .before in
@@ -58,7 +48,6 @@ loop-again c =
     let file = now (b .args .file) in
     (omega arith, l .inv .1 ∙ seen-before file (b .pre .1) (l .j) (b .args .id) (p .before .loop-test .taken) (c .before .u32-in .ensures ∙ ap (u32At file) (p .entry-place .ensures)) (c .if1 .left))
 
--- src/lib.rt:95:1
 returns-2 : tie.Need-returns-2 Inv-loop μ-loop
 returns-2 c = let l = c .before .loop in seen-none _ (l .j) _ (c .loop-test .left) ∙ sym (l .inv .1)
 

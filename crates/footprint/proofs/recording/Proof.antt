@@ -1,5 +1,6 @@
+-- A file that is not refused has the layout, so entry k is there if k is below the count.
 use borrow.Author.Needs.{needs}
-use mathlib.Core.Path.{_≡_, sym, ap, _∙_}
+use mathlib.Core.Path.{ap, _∙_}
 use native.Mathlib.Omega.{arith}
 use denote.Ref.{now}
 use Rattle.layout.specs.Parts.{entryFrom}
@@ -9,70 +10,49 @@ use Rattle.footprint.proofs.Table.{entry-is}
 use Rattle.footprint.proofs.Recorded.{layout-of, by-verdict, no-recording, by-entry}
 use Rattle.footprint.proofs.recording.Statement.{statement}
 use Rattle.footprint.proofs.recording.Tie as tie
-use Rattle.footprint.proofs.recording.Reads as reads
-use Rattle.footprint.proofs.recording.Lts as lts
-use Rattle.footprint.proofs.check.Reads as check-reads
-use Rattle.footprint.proofs.entry_in.Reads as entry-in-reads
-use Rattle.footprint.proofs.entry_place.Reads as entry-place-reads
-use Rattle.footprint.proofs.refused.Reads as refused-reads
-use Rattle.footprint.proofs.u32_in.Reads as u32-in-reads
 
 good : (c : tie.Else1) → Layout (now (c .before .before .before .before .args .file))
 good c = layout-of _ (c .before .before .check .ensures) (c .if1 .left)
 
--- src/lib.rt:258:9
 check-requires : tie.Need-check-requires
 check-requires c κs = search needs
 
--- src/lib.rt:260:9
 refused-requires : tie.Need-refused-requires
 refused-requires c κs = search needs
 
--- src/lib.rt:260:9
 returns : tie.Need-returns
 returns c = by-verdict _ _ (c .before .before .before .check .ensures) (c .before .if1 .taken) (c .refused .ensures)
 
--- src/lib.rt:263:21
 sub-u32-in : tie.Need-sub-u32-in
 sub-u32-in c = let g = good c in omega (arith, g .atLeast12)
 
--- src/lib.rt:263:8
 u32-in-requires : tie.Need-u32-in-requires
 u32-in-requires c κs = let g = good c in omega (arith, g .atLeast12)
 
--- src/lib.rt:263:8
 cast-if2 : tie.Need-cast-if2
 cast-if2 c = search needs
 
--- src/lib.rt:264:9
 refused-requires-2 : tie.Need-refused-requires-2
 refused-requires-2 c κs = search needs
 
--- src/lib.rt:264:9
 returns-2 : tie.Need-returns-2
 returns-2 c = let e = c .before .before .before in no-recording _ _ (good e) (count-read _ (c .before .before .u32-in .ensures)) (c .before .if2 .taken) (c .refused2 .ensures)
 
--- src/lib.rt:266:30
 sub-u32-in-2 : tie.Need-sub-u32-in-2
 sub-u32-in-2 c = let g = good (c .before .before) in omega (arith, g .atLeast12)
 
--- src/lib.rt:266:17
 u32-in-requires-2 : tie.Need-u32-in-requires-2
 u32-in-requires-2 c κs = let g = good (c .before .before) in omega (arith, g .atLeast12)
 
--- src/lib.rt:266:17
 cast-table : tie.Need-cast-table
 cast-table c = search needs
 
--- src/lib.rt:267:28
 entry-place-requires : tie.Need-entry-place-requires
 entry-place-requires c κs = let g = good (c .before .before .before) in let t = table-read _ (c .u32-in2 .ensures) in let n = count-read _ (c .before .before .u32-in .ensures) in (omega (arith, g .filled, g .atMost65536, t), omega (arith, g .atMost64, n, c .before .if2 .left))
 
--- src/lib.rt:267:9
 entry-in-requires : tie.Need-entry-in-requires
 entry-in-requires c κs = let g = good (c .before .before .before .before) in let t = table-read _ (c .before .u32-in2 .ensures) in let n = count-read _ (c .before .before .before .u32-in .ensures) in omega (arith, g .filled, t, n, c .before .before .if2 .left, c .entry-place .ensures)
 
--- src/lib.rt:255:1
 returns-3 : tie.Need-returns-3
 returns-3 c =
     let u = c .before .before in

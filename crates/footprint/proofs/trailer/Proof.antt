@@ -1,3 +1,4 @@
+-- Three rows, asked in their order.
 use mathlib.Core.Path.{_∙_}
 use borrow.Author.Tests.{eq-eqb, ne-eqb, lt-ltb, le-ltb}
 use Rattle.layout.specs.Parts.{storedLength, countOf, tablePlace}
@@ -5,91 +6,66 @@ use Rattle.layout.specs.Verdict.{firstOf, test, placeOf}
 use borrow.Author.Needs.{needs}
 use Rattle.footprint.proofs.trailer.Statement.{statement}
 use Rattle.footprint.proofs.trailer.Tie as tie
-use Rattle.footprint.proofs.trailer.Reads as reads
-use Rattle.footprint.proofs.trailer.Lts as lts
-use Rattle.footprint.proofs.acceptance.Reads as acceptance-reads
-use Rattle.footprint.proofs.refusal.Reads as refusal-reads
-use Rattle.footprint.proofs.trailer_end.Reads as trailer-end-reads
-use Rattle.footprint.proofs.u32_in.Reads as u32-in-reads
 
--- src/lib.rt:134:9
 refusal-requires : tie.Need-refusal-requires
 refusal-requires c κs = search needs
 
--- src/lib.rt:134:9
 returns : tie.Need-returns
 unfolding firstOf test placeOf storedLength countOf tablePlace
 returns c = c .refusal .ensures ∙ simp (lt-ltb _ _ (c .before .if1 .taken))
 
--- src/lib.rt:137:9
 refusal-requires-2 : tie.Need-refusal-requires-2
 refusal-requires-2 c κs = search needs
 
--- src/lib.rt:137:9
 returns-2 : tie.Need-returns-2
 unfolding firstOf test placeOf storedLength countOf tablePlace
 returns-2 c = c .refusal2 .ensures ∙ simp (le-ltb _ _ (c .before .before .if1 .left), lt-ltb _ _ (c .before .if2 .taken))
 
--- src/lib.rt:139:21
 sub-u32-in : tie.Need-sub-u32-in
 sub-u32-in c = search needs
 
--- src/lib.rt:139:8
 u32-in-requires : tie.Need-u32-in-requires
 u32-in-requires c κs = search needs
 
--- src/lib.rt:139:8
 cast-if3 : tie.Need-cast-if3
 cast-if3 c = search needs
 
--- src/lib.rt:140:9
 refusal-requires-3 : tie.Need-refusal-requires-3
 refusal-requires-3 c κs = search needs
 
--- src/lib.rt:140:9
 returns-3 : tie.Need-returns-3
 unfolding firstOf test placeOf storedLength countOf tablePlace
 returns-3 c = let d = c .before .before .before in c .refusal3 .ensures ∙ simp (le-ltb _ _ (d .before .if1 .left), le-ltb _ _ (d .if2 .left), ← c .before .before .u32-in .ensures, ne-eqb _ _ (c .before .if3 .taken))
 
--- src/lib.rt:142:30
 sub-u32-in-2 : tie.Need-sub-u32-in-2
 sub-u32-in-2 c = search needs
 
--- src/lib.rt:142:9
 u32-in-requires-2 : tie.Need-u32-in-requires-2
 u32-in-requires-2 c κs = search needs
 
--- src/lib.rt:144:9
 refusal-requires-4 : tie.Need-refusal-requires-4
 refusal-requires-4 c κs = search needs
 
--- src/lib.rt:144:9
 returns-4 : tie.Need-returns-4
 unfolding firstOf test placeOf storedLength countOf tablePlace
 returns-4 c = let e = c .before .before .before in let d = e .before .before in c .refusal4 .ensures ∙ simp (le-ltb _ _ (d .before .if1 .left), le-ltb _ _ (d .if2 .left), ← e .before .u32-in .ensures, eq-eqb _ _ (e .if3 .left), ← c .before .before .u32-in2 .ensures, lt-ltb _ _ (c .before .if4 .taken))
 
--- src/lib.rt:146:20
 u32-in-requires-3 : tie.Need-u32-in-requires-3
 u32-in-requires-3 c κs = search needs
 
--- src/lib.rt:146:8
 trailer-end-requires : tie.Need-trailer-end-requires
 trailer-end-requires c κs = search needs
 
--- src/lib.rt:147:9
 refusal-requires-5 : tie.Need-refusal-requires-5
 refusal-requires-5 c κs = search needs
 
--- src/lib.rt:147:9
 returns-5 : tie.Need-returns-5
 unfolding firstOf test placeOf storedLength countOf tablePlace
 returns-5 c = let t = c .before .before in let f = t .before .before in let e = f .before .before in let d = e .before .before in c .refusal5 .ensures ∙ simp (le-ltb _ _ (d .before .if1 .left), le-ltb _ _ (d .if2 .left), ← e .before .u32-in .ensures, eq-eqb _ _ (e .if3 .left), ← f .before .u32-in2 .ensures, le-ltb _ _ (f .if4 .left), ← t .before .u32-in3 .ensures, ← t .trailer-end .ensures, ne-eqb _ _ (c .before .if5 .taken))
 
--- src/lib.rt:149:5
 acceptance-requires : tie.Need-acceptance-requires
 acceptance-requires c κs = search needs
 
--- src/lib.rt:129:1
 returns-6 : tie.Need-returns-6
 unfolding firstOf test placeOf storedLength countOf tablePlace
 returns-6 c = let t = c .before .before in let f = t .before .before in let e = f .before .before in let d = e .before .before in c .acceptance .ensures ∙ simp (le-ltb _ _ (d .before .if1 .left), le-ltb _ _ (d .if2 .left), ← e .before .u32-in .ensures, eq-eqb _ _ (e .if3 .left), ← f .before .u32-in2 .ensures, le-ltb _ _ (f .if4 .left), ← t .before .u32-in3 .ensures, ← t .trailer-end .ensures, eq-eqb _ _ (c .before .if5 .left))

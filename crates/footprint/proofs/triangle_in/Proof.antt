@@ -1,3 +1,4 @@
+-- Six numbers, each read at its place in the triangle.
 use mathlib.Core.Path.{ap, _∙_}
 use borrow.Author.Needs.{sfits-of}
 use Rattle.layout.specs.Parts.{triangleFrom}
@@ -7,60 +8,43 @@ use Rattle.footprint.proofs.Judge.{triangle-read}
 use borrow.Author.Needs.{needs}
 use Rattle.footprint.proofs.triangle_in.Statement.{statement}
 use Rattle.footprint.proofs.triangle_in.Tie as tie
-use Rattle.footprint.proofs.triangle_in.Reads as reads
-use Rattle.footprint.proofs.triangle_in.Lts as lts
-use Rattle.footprint.proofs.i32_in.Reads as i32-in-reads
-use Rattle.layout.proofs.triangle_rule.Reads as triangle-rule-reads
 
--- src/lib.rt:167:9
 i32-in-requires : tie.Need-i32-in-requires
 i32-in-requires c κs = search needs
 
--- src/lib.rt:168:27
 add-i32-in : tie.Need-add-i32-in
 add-i32-in c = search needs
 
--- src/lib.rt:168:9
 i32-in-requires-2 : tie.Need-i32-in-requires-2
 i32-in-requires-2 c κs = search needs
 
--- src/lib.rt:169:27
 add-i32-in-2 : tie.Need-add-i32-in-2
 add-i32-in-2 c = search needs
 
--- src/lib.rt:169:9
 i32-in-requires-3 : tie.Need-i32-in-requires-3
 i32-in-requires-3 c κs = search needs
 
--- src/lib.rt:170:27
 add-i32-in-3 : tie.Need-add-i32-in-3
 add-i32-in-3 c = search needs
 
--- src/lib.rt:170:9
 i32-in-requires-4 : tie.Need-i32-in-requires-4
 i32-in-requires-4 c κs = search needs
 
--- src/lib.rt:171:27
 add-i32-in-4 : tie.Need-add-i32-in-4
 add-i32-in-4 c = search needs
 
--- src/lib.rt:171:9
 i32-in-requires-5 : tie.Need-i32-in-requires-5
 i32-in-requires-5 c κs = search needs
 
--- src/lib.rt:172:27
 add-i32-in-5 : tie.Need-add-i32-in-5
 add-i32-in-5 c = search needs
 
--- src/lib.rt:172:9
 i32-in-requires-6 : tie.Need-i32-in-requires-6
 i32-in-requires-6 c κs = search needs
 
--- src/lib.rt:173:5
 triangle-rule-requires : tie.Need-triangle-rule-requires
 triangle-rule-requires c κs = search needs
 
--- src/lib.rt:163:1
 returns : tie.Need-returns
 unfolding triangleFrom
 returns c = c .triangle-rule .ensures ∙ ap triangleRule (same-triangle (sfits-of {z = c .before .before .before .before .before .before .i32-in .result} (c .before .before .before .before .before .before .i32-in .ok)) (sfits-of {z = c .before .before .before .before .before .i32-in2 .result} (c .before .before .before .before .before .i32-in2 .ok)) (sfits-of {z = c .before .before .before .before .i32-in3 .result} (c .before .before .before .before .i32-in3 .ok)) (sfits-of {z = c .before .before .before .i32-in4 .result} (c .before .before .before .i32-in4 .ok)) (sfits-of {z = c .before .before .i32-in5 .result} (c .before .before .i32-in5 .ok)) (sfits-of {z = c .before .i32-in6 .result} (c .before .i32-in6 .ok)) ∙ triangle-read (c .before .before .before .before .before .before .i32-in .ensures) (c .before .before .before .before .before .i32-in2 .ensures) (c .before .before .before .before .i32-in3 .ensures) (c .before .before .before .i32-in4 .ensures) (c .before .before .i32-in5 .ensures) (c .before .i32-in6 .ensures))

@@ -1,6 +1,7 @@
+-- Before each turn the triangles that are left say what all say.
 use borrow.Author.Needs.{needs}
 use native.Mathlib.Omega.{arith}
-use Prim.Native.Nat.{_≤_, _*_, _-_, _/_}
+use Prim.Native.Nat.{_≤_, _-_, _/_}
 use mathlib.Core.Path.{_≡_, refl, sym, _∙_}
 use mathlib.Core.List.{[], _++_}
 use denote.Ref.{now}
@@ -11,11 +12,6 @@ use Rattle.layout.proofs.Stages.{triangle-says, stops, goes-on, ended}
 use Rattle.footprint.proofs.Judge.{from-start, triangle-number}
 use Rattle.footprint.proofs.triangles.Statement.{statement}
 use Rattle.footprint.proofs.triangles.Tie as tie
-use Rattle.footprint.proofs.triangles.Reads as reads
-use Rattle.footprint.proofs.triangles.Lts as lts
-use Rattle.footprint.proofs.acceptance.Reads as acceptance-reads
-use Rattle.footprint.proofs.refusal.Reads as refusal-reads
-use Rattle.footprint.proofs.triangle_in.Reads as triangle-in-reads
 
 abbrev Inv-loop : tie.InvT-loop
 Inv-loop file table n k₀ k = (k ≤ table / 24) × (firstOf file (triangleRows file) ≡ firstOf file (inTurn outOfRange flat (table / 24 - k) k ++ []))
@@ -23,23 +19,18 @@ Inv-loop file table n k₀ k = (k ≤ table / 24) × (firstOf file (triangleRows
 abbrev μ-loop : tie.MeasureT-loop
 μ-loop file table n k₀ k = table / 24 - k
 
--- src/lib.rt:197:5
 loop-holds : tie.Need-loop-holds Inv-loop μ-loop
 loop-holds c = (omega arith, from-start _ (c .before .pre .0))
 
--- src/lib.rt:198:18
 mul-place : tie.Need-mul-place Inv-loop μ-loop
 mul-place c = search needs
 
--- src/lib.rt:199:13
 triangle-in-requires : tie.Need-triangle-in-requires Inv-loop μ-loop
 triangle-in-requires c κs = search needs
 
--- src/lib.rt:201:13
 refusal-requires : tie.Need-refusal-requires Inv-loop μ-loop
 refusal-requires c κs = search needs
 
--- src/lib.rt:201:13
 returns : tie.Need-returns Inv-loop μ-loop
 returns c =
     let t = c .before .before in
@@ -48,15 +39,12 @@ returns c =
     let file = now (b .args .file) in
     c .refusal .ensures ∙ (stops file outOfRange flat (triangleNumber file) trianglePlace (triangle-says file) (b .args .table / 24) (l .k) [] (t .before .loop-test .taken) (triangle-number file (l .k) (t .triangle-in .ensures)) refl (c .before .if1 .taken) ∙ sym (l .inv .1))
 
--- src/lib.rt:203:13
 add-k : tie.Need-add-k Inv-loop μ-loop
 add-k c = search needs
 
--- src/lib.rt:197:5
 loop-less : tie.Need-loop-less Inv-loop μ-loop
 loop-less c = search needs
 
--- src/lib.rt:197:5
 loop-again : tie.Need-loop-again Inv-loop μ-loop
 loop-again c =
     let l = c .before .before .before .loop in
@@ -64,11 +52,9 @@ loop-again c =
     let file = now (b .args .file) in
     (omega arith, l .inv .1 ∙ goes-on file outOfRange flat (triangleNumber file) trianglePlace (triangle-says file) (b .args .table / 24) (l .k) [] (c .before .before .loop-test .taken) (triangle-number file (l .k) (c .before .triangle-in .ensures)) (c .if1 .left))
 
--- src/lib.rt:205:5
 acceptance-requires : tie.Need-acceptance-requires Inv-loop μ-loop
 acceptance-requires c κs = search needs
 
--- src/lib.rt:191:1
 returns-2 : tie.Need-returns-2 Inv-loop μ-loop
 returns-2 c =
     let l = c .before .before .loop in

@@ -1,44 +1,33 @@
+-- Four bytes, the lowest first.
 use Rattle.layout.specs.Bytes.{u32At}
 use borrow.Author.Needs.{needs}
 use Rattle.footprint.proofs.u32_in.Statement.{statement}
 use Rattle.footprint.proofs.u32_in.Tie as tie
-use Rattle.footprint.proofs.u32_in.Reads as reads
-use Rattle.footprint.proofs.u32_in.Lts as lts
-use Rattle.footprint.proofs.four.Reads as four-reads
 
--- src/lib.rt:38:10
 shared-slice-read-four : tie.Need-shared-slice-read-four
 shared-slice-read-four c = search needs
 
--- src/lib.rt:38:25
 add-four : tie.Need-add-four
 add-four c = search needs
 
--- src/lib.rt:38:20
 shared-slice-read-four-2 : tie.Need-shared-slice-read-four-2
 shared-slice-read-four-2 c = search needs
 
--- src/lib.rt:38:39
 add-four-2 : tie.Need-add-four-2
 add-four-2 c = search needs
 
--- src/lib.rt:38:34
 shared-slice-read-four-3 : tie.Need-shared-slice-read-four-3
 shared-slice-read-four-3 c = search needs
 
--- src/lib.rt:38:53
 add-four-3 : tie.Need-add-four-3
 add-four-3 c = search needs
 
--- src/lib.rt:38:48
 shared-slice-read-four-4 : tie.Need-shared-slice-read-four-4
 shared-slice-read-four-4 c = search needs
 
--- src/lib.rt:38:5
 four-requires : tie.Need-four-requires
 four-requires c κs = search needs
 
--- src/lib.rt:34:1
 returns : tie.Need-returns
 unfolding u32At
 returns c = search needs

@@ -1,36 +1,29 @@
+-- The tests are the rule's, in its order.
 use borrow.Author.Tests.{eq-eqb, ne-eqb, lt-ltb, le-ltb}
 use Rattle.layout.specs.Rules.{isBadEntry, entryRule}
 use Rattle.layout.proofs.entry_rule.Statement.{statement}
 use Rattle.layout.proofs.entry_rule.Tie as tie
-use Rattle.layout.proofs.entry_rule.Reads as reads
-use Rattle.layout.proofs.entry_rule.Lts as lts
 
--- src/lib.rt:102:9
 returns : tie.Need-returns
 unfolding entryRule isBadEntry
 returns c = simp (eq-eqb _ _ (c .if1 .taken))
 
--- src/lib.rt:105:9
 returns-2 : tie.Need-returns-2
 unfolding entryRule isBadEntry
 returns-2 c = simp (ne-eqb _ _ (c .before .before .if1 .left), lt-ltb _ _ (c .if2 .taken))
 
--- src/lib.rt:108:9
 returns-3 : tie.Need-returns-3
 unfolding entryRule isBadEntry
 returns-3 c = let b = c .before .before in simp (ne-eqb _ _ (b .before .before .if1 .left), le-ltb _ _ (b .if2 .left), ne-eqb _ _ (c .if3 .taken))
 
--- src/lib.rt:111:9
 returns-4 : tie.Need-returns-4
 unfolding entryRule isBadEntry
 returns-4 c = let d = c .before .before in let b = d .before .before in simp (ne-eqb _ _ (b .before .before .if1 .left), le-ltb _ _ (b .if2 .left), eq-eqb _ _ (d .if3 .left), ne-eqb _ _ (c .if4 .taken))
 
--- src/lib.rt:114:9
 returns-5 : tie.Need-returns-5
 unfolding entryRule isBadEntry
 returns-5 c = let e = c .before in let d = e .before .before in let b = d .before .before in simp (ne-eqb _ _ (b .before .before .if1 .left), le-ltb _ _ (b .if2 .left), eq-eqb _ _ (d .if3 .left), eq-eqb _ _ (e .if4 .left), c .if5 .taken)
 
--- src/lib.rt:98:1
 returns-6 : tie.Need-returns-6
 unfolding entryRule isBadEntry
 returns-6 c = let e = c .before in let d = e .before .before in let b = d .before .before in simp (ne-eqb _ _ (b .before .before .if1 .left), le-ltb _ _ (b .if2 .left), eq-eqb _ _ (d .if3 .left), eq-eqb _ _ (e .if4 .left), c .if5 .left)

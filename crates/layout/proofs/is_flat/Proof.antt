@@ -1,9 +1,8 @@
+-- Every difference and product fits in 64 bits, so the cross is exact.
 use Rattle.layout.specs.Rules.{isFlat, twiceArea}
 use Rattle.layout.proofs.Cross.{In, within, widens, apart-fits, product-fits, cross-fits, cross-nought}
 use Rattle.layout.proofs.is_flat.Statement.{statement}
 use Rattle.layout.proofs.is_flat.Tie as tie
-use Rattle.layout.proofs.is_flat.Reads as reads
-use Rattle.layout.proofs.is_flat.Lts as lts
 
 module _ (c : tie.Start) where
   a0 : In (c .args .x0)
@@ -24,67 +23,51 @@ module _ (c : tie.Start) where
   b2 : In (c .args .y2)
   b2 = within (c .args .y2) (c .fits .y2) (c .pre .5)
 
--- src/lib.rt:62:13
 cast-a : tie.Need-cast-a
 cast-a c = widens _ (a1 c)
 
--- src/lib.rt:62:25
 cast-a-2 : tie.Need-cast-a-2
 cast-a-2 c = widens _ (a0 c)
 
--- src/lib.rt:62:13
 sub-a : tie.Need-sub-a
 sub-a c = apart-fits _ _ (a1 c) (a0 c)
 
--- src/lib.rt:63:13
 cast-b : tie.Need-cast-b
 cast-b c = widens _ (b1 c)
 
--- src/lib.rt:63:25
 cast-b-2 : tie.Need-cast-b-2
 cast-b-2 c = widens _ (b0 c)
 
--- src/lib.rt:63:13
 sub-b : tie.Need-sub-b
 sub-b c = apart-fits _ _ (b1 c) (b0 c)
 
--- src/lib.rt:64:13
 cast-c : tie.Need-cast-c
 cast-c c = widens _ (a2 c)
 
--- src/lib.rt:64:25
 cast-c-2 : tie.Need-cast-c-2
 cast-c-2 c = widens _ (a0 c)
 
--- src/lib.rt:64:13
 sub-c : tie.Need-sub-c
 sub-c c = apart-fits _ _ (a2 c) (a0 c)
 
--- src/lib.rt:65:13
 cast-d : tie.Need-cast-d
 cast-d c = widens _ (b2 c)
 
--- src/lib.rt:65:25
 cast-d-2 : tie.Need-cast-d-2
 cast-d-2 c = widens _ (b0 c)
 
--- src/lib.rt:65:13
 sub-d : tie.Need-sub-d
 sub-d c = apart-fits _ _ (b2 c) (b0 c)
 
--- src/lib.rt:66:5
 mul-result : tie.Need-mul-result
 mul-result c = product-fits _ _ _ _ (a1 c) (a0 c) (b2 c) (b0 c)
 
--- src/lib.rt:66:13
 mul-result-2 : tie.Need-mul-result-2
 mul-result-2 c = product-fits _ _ _ _ (b1 c) (b0 c) (a2 c) (a0 c)
 
--- src/lib.rt:66:5
 sub-result : tie.Need-sub-result
 sub-result c = cross-fits _ _ _ _ _ _ (a0 c) (b0 c) (a1 c) (b1 c) (a2 c) (b2 c)
 
--- src/lib.rt:58:1
 returns : tie.Need-returns
 unfolding isFlat twiceArea
 returns c = cross-nought _ _ _ _ _ _ (a0 c) (b0 c) (a1 c) (b1 c) (a2 c) (b2 c)

@@ -1,3 +1,4 @@
+-- The six numbers are asked in turn; the first that is far decides.
 use mathlib.Core.Path.{_≡_, refl}
 use mathlib.Core.Bool.{false, or-false}
 use Rattle.floats.specs.Lists.{any}
@@ -6,9 +7,6 @@ use Rattle.layout.proofs.Cross.{far-is}
 use borrow.Author.Needs.{needs}
 use Rattle.layout.proofs.is_out_of_range.Statement.{statement}
 use Rattle.layout.proofs.is_out_of_range.Tie as tie
-use Rattle.layout.proofs.is_out_of_range.Reads as reads
-use Rattle.layout.proofs.is_out_of_range.Lts as lts
-use Rattle.layout.proofs.is_far.Reads as is-far-reads
 
 not1 : (c : tie.Else1) → isFar (c .before .before .args .x0) ≡ false
 not1 c = far-is _ _ _ (c .before .before .fits .x0) (c .before .is-far .ensures) (c .if1 .left)
@@ -25,56 +23,44 @@ not4 c = far-is _ _ _ (c .before .before .before .before .before .before .before
 not5 : (c : tie.Else5) → isFar (c .before .before .before .before .before .before .before .before .before .before .args .x2) ≡ false
 not5 c = far-is _ _ _ (c .before .before .before .before .before .before .before .before .before .before .fits .x2) (c .before .is-far5 .ensures) (c .if5 .left)
 
--- src/lib.rt:61:8
 is-far-requires : tie.Need-is-far-requires
 is-far-requires c κs = search needs
 
--- src/lib.rt:62:9
 returns : tie.Need-returns
 unfolding isOutOfRange any
 returns c = simp (far-is _ _ _ (c .before .before .fits .x0) (c .before .is-far .ensures) (c .if1 .taken))
 
--- src/lib.rt:64:8
 is-far-requires-2 : tie.Need-is-far-requires-2
 is-far-requires-2 c κs = search needs
 
--- src/lib.rt:65:9
 returns-2 : tie.Need-returns-2
 unfolding isOutOfRange any
 returns-2 c = simp (not1 (c .before .before), far-is _ _ _ (c .before .before .before .before .fits .y0) (c .before .is-far2 .ensures) (c .if2 .taken))
 
--- src/lib.rt:67:8
 is-far-requires-3 : tie.Need-is-far-requires-3
 is-far-requires-3 c κs = search needs
 
--- src/lib.rt:68:9
 returns-3 : tie.Need-returns-3
 unfolding isOutOfRange any
 returns-3 c = simp (not1 (c .before .before .before .before), not2 (c .before .before), far-is _ _ _ (c .before .before .before .before .before .before .fits .x1) (c .before .is-far3 .ensures) (c .if3 .taken))
 
--- src/lib.rt:70:8
 is-far-requires-4 : tie.Need-is-far-requires-4
 is-far-requires-4 c κs = search needs
 
--- src/lib.rt:71:9
 returns-4 : tie.Need-returns-4
 unfolding isOutOfRange any
 returns-4 c = simp (not1 (c .before .before .before .before .before .before), not2 (c .before .before .before .before), not3 (c .before .before), far-is _ _ _ (c .before .before .before .before .before .before .before .before .fits .y1) (c .before .is-far4 .ensures) (c .if4 .taken))
 
--- src/lib.rt:73:8
 is-far-requires-5 : tie.Need-is-far-requires-5
 is-far-requires-5 c κs = search needs
 
--- src/lib.rt:74:9
 returns-5 : tie.Need-returns-5
 unfolding isOutOfRange any
 returns-5 c = simp (not1 (c .before .before .before .before .before .before .before .before), not2 (c .before .before .before .before .before .before), not3 (c .before .before .before .before), not4 (c .before .before), far-is _ _ _ (c .before .before .before .before .before .before .before .before .before .before .fits .x2) (c .before .is-far5 .ensures) (c .if5 .taken))
 
--- src/lib.rt:76:5
 is-far-requires-6 : tie.Need-is-far-requires-6
 is-far-requires-6 c κs = search needs
 
--- src/lib.rt:58:1
 returns-6 : tie.Need-returns-6
 unfolding isOutOfRange any
 returns-6 c = simp (not1 (c .before .before .before .before .before .before .before .before .before), not2 (c .before .before .before .before .before .before .before), not3 (c .before .before .before .before .before), not4 (c .before .before .before), not5 (c .before), or-false, far-is _ _ _ (c .before .before .before .before .before .before .before .before .before .before .before .fits .y2) (c .is-far6 .ensures) refl)

@@ -1,3 +1,4 @@
+-- The range is asked first, so the cross is only asked of a triangle in range.
 use mathlib.Core.Path.{_≡_}
 use mathlib.Core.Bool.{true, false}
 use Rattle.layout.specs.Parts.{triangleOf}
@@ -6,33 +7,24 @@ use Rattle.layout.proofs.Cross.{near-back, of-triangle, none-far}
 use borrow.Author.Needs.{needs}
 use Rattle.layout.proofs.triangle_rule.Statement.{statement}
 use Rattle.layout.proofs.triangle_rule.Tie as tie
-use Rattle.layout.proofs.triangle_rule.Reads as reads
-use Rattle.layout.proofs.triangle_rule.Lts as lts
-use Rattle.layout.proofs.is_flat.Reads as is-flat-reads
-use Rattle.layout.proofs.is_out_of_range.Reads as is-out-of-range-reads
 
 in-range : (c : tie.Else1) → isOutOfRange (triangleOf (c .before .before .args .x0) (c .before .before .args .y0) (c .before .before .args .x1) (c .before .before .args .y1) (c .before .before .args .x2) (c .before .before .args .y2)) ≡ false
 in-range c = let s = c .before .before in of-triangle isOutOfRange false (s .fits .x0) (s .fits .y0) (s .fits .x1) (s .fits .y1) (s .fits .x2) (s .fits .y2) (c .before .is-out-of-range .ensures) (c .if1 .left)
 
--- src/lib.rt:95:8
 is-out-of-range-requires : tie.Need-is-out-of-range-requires
 is-out-of-range-requires c κs = search needs
 
--- src/lib.rt:96:9
 returns : tie.Need-returns
 unfolding triangleRule
 returns c = let s = c .before .before in simp (of-triangle isOutOfRange true (s .fits .x0) (s .fits .y0) (s .fits .x1) (s .fits .y1) (s .fits .x2) (s .fits .y2) (c .before .is-out-of-range .ensures) (c .if1 .taken))
 
--- src/lib.rt:98:8
 is-flat-requires : tie.Need-is-flat-requires
 is-flat-requires c κs = let s = c .before .before in let n = none-far _ _ _ _ _ _ (in-range c) in (near-back _ (s .fits .x0) (n .0), near-back _ (s .fits .y0) (n .1), near-back _ (s .fits .x1) (n .2), near-back _ (s .fits .y1) (n .3), near-back _ (s .fits .x2) (n .4), near-back _ (s .fits .y2) (n .5))
 
--- src/lib.rt:99:9
 returns-2 : tie.Need-returns-2
 unfolding triangleRule
 returns-2 c = let e = c .before .before in let s = e .before .before in simp (in-range e, of-triangle isFlat true (s .fits .x0) (s .fits .y0) (s .fits .x1) (s .fits .y1) (s .fits .x2) (s .fits .y2) (c .before .is-flat .ensures) (c .if2 .taken))
 
--- src/lib.rt:92:1
 returns-3 : tie.Need-returns-3
 unfolding triangleRule
 returns-3 c = let e = c .before .before in let s = e .before .before in simp (in-range e, of-triangle isFlat false (s .fits .x0) (s .fits .y0) (s .fits .x1) (s .fits .y1) (s .fits .x2) (s .fits .y2) (c .before .is-flat .ensures) (c .if2 .left))
