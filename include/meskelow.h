@@ -53,7 +53,8 @@ typedef struct {
                         *  11  under 12 bytes, or over 65,536
                         *  12  the stored length is not the file's
                         *  13  over 64 recordings, or table and trailer do not end with the file
-                        *  14  an entry: no triangles, set over 2, last byte not zero, or not where the one before ended
+                        *  14  an entry has no triangles, a set over 2 or a last byte other than 0, or begins elsewhere than the one
+                        *      before it ends
                         *  15  the last triangle does not end at the table
                         *  16  an entry's id was there before
                         *  17  a coordinate is out of range
