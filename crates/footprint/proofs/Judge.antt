@@ -6,9 +6,8 @@ use mathlib.Core.List.{List, [], _++_, append-nil}
 use native.Mathlib.Omega.{arith}
 use lib.Dec.{ltb, eqb}
 use lib.ListN.{length, List·getD-eq-default}
-use lib.IntN.{ℤ}
 use borrow.Author.Tests.{ltb-false, eqb-true, not-false}
-use Rattle.layout.specs.Bytes.{four, u16At, u32At, byteAt}
+use Rattle.layout.specs.Bytes.{signed, four, u16At, u32At, byteAt}
 use Rattle.layout.specs.Parts.{triangleOf, tablePlace, countOf, storedLength, entryFrom, triangleFrom, triangleAt, trianglesOf}
 use Rattle.layout.specs.Verdict.{outOfRange, flat, inTurn, test, placeOf, firstOf, said, good, verdict}
 use Rattle.layout.specs.Rules.{isBadLength, isOtherLength, isBadTrailer, triangleRule}
@@ -60,7 +59,8 @@ pub entry-read : (file : List ℕ) (at : ℕ) {id first count set last : ℕ} �
 unfolding entryFrom
 entry-read file at a b c d e = rw (a, b, c, d, e) refl
 
-pub triangle-read : {a b c d e f a' b' c' d' e' f' : ℤ} → a ≡ a' → b ≡ b' → c ≡ c' → d ≡ d' → e ≡ e' → f ≡ f' → triangleOf a b c d e f ≡ triangleOf a' b' c' d' e' f'
+pub triangle-read : {a b c d e f a' b' c' d' e' f' : ℕ} → a ≡ a' → b ≡ b' → c ≡ c' → d ≡ d' → e ≡ e' → f ≡ f'
+    → triangleOf (signed a) (signed b) (signed c) (signed d) (signed e) (signed f) ≡ triangleOf (signed a') (signed b') (signed c') (signed d') (signed e') (signed f')
 triangle-read p q r s t u = rw (p, q, r, s, t, u) refl
 
 -- ---- the trailer's numbers, and the triangles from the first on

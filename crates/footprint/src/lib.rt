@@ -43,13 +43,6 @@ fn u32_in(file: &[u8], at: usize) -> u32
     four(file[at], file[at + 1], file[at + 2], file[at + 3])
 }
 
-fn i32_in(file: &[u8], at: usize) -> i32
-    requires { ⌜ at + 4 ≤ length (now file) ⌝ }
-    ensures { λ r. ⌜ r ≡ i32At (now (file .entry)) at ⌝ }
-{
-    layout::signed(u32_in(file, at))
-}
-
 fn entry_in(file: &[u8], at: usize) -> layout::Entry
     requires { ⌜ at + 12 ≤ length (now file) ⌝ }
     ensures { λ r. ⌜ (r ≡ entryFrom (now (file .entry)) at) × (r .count < 65536) ⌝ }
@@ -177,12 +170,12 @@ fn triangle_in(file: &[u8], at: usize) -> u32
     requires { ⌜ at + 24 ≤ length (now file) ⌝ }
     ensures { λ r. ⌜ r ≡ triangleRule (triangleFrom (now (file .entry)) at) ⌝ }
 {
-    let x0 = i32_in(file, at);
-    let y0 = i32_in(file, at + 4);
-    let x1 = i32_in(file, at + 8);
-    let y1 = i32_in(file, at + 12);
-    let x2 = i32_in(file, at + 16);
-    let y2 = i32_in(file, at + 20);
+    let x0 = u32_in(file, at);
+    let y0 = u32_in(file, at + 4);
+    let x1 = u32_in(file, at + 8);
+    let y1 = u32_in(file, at + 12);
+    let x2 = u32_in(file, at + 16);
+    let y2 = u32_in(file, at + 20);
     layout::triangle_rule(x0, y0, x1, y1, x2, y2)
 }
 

@@ -1,10 +1,12 @@
 // The footprint file: its layout, its refusals with their places, and the rules that judge plain numbers, of an entry and of a triangle. The reader, crate `footprint`, feeds them with a file's bytes.
 ghost use mathlib.Core.Path.{_≡_};
 ghost use Prim.Native.Nat.{_≤_};
-ghost use lib.IntN.{natAbs};
+ghost use mathlib.Core.List.{[], _∷_};
+ghost use lib.IntN.{pos};
 ghost use Rattle.layout.specs.Bytes.{signed as signedOf};
 ghost use Rattle.layout.specs.Parts.{triangleOf};
-ghost use Rattle.layout.specs.Rules.{isFar, isOutOfRange, isFlat, entryRule, triangleRule};
+ghost use Rattle.layout.specs.Code.{fromBottom, isAboveTop};
+ghost use Rattle.layout.specs.Rules.{isFlat, entryRule, triangleRule};
 
 // What is said of a file: number 0 and place 0 if it is good, else the refusal's number and the place where it was found.
 #[repr(C)]
@@ -45,41 +47,43 @@ pub fn signed(v: u32) -> i32
     }
 }
 
-fn is_far(z: i32) -> bool
-    ensures { λ r. ⌜ r ≡ isFar z ⌝ }
+// The number that 32 bits stand for, counted from −1,000,000: at most 2,000,000 if it is in range.
+fn from_bottom(v: u32) -> u32
+    ensures { λ r. ⌜ r ≡ fromBottom v ⌝ }
 {
-    if z < -1000000 {
-        return true;
+    if v < 4293967296 {
+        v + 1000000
+    } else {
+        v - 4293967296
     }
-    1000000 < z
 }
 
-// Whether one of a triangle's six numbers is out of range.
-fn is_out_of_range(x0: i32, y0: i32, x1: i32, y1: i32, x2: i32, y2: i32) -> bool
-    ensures { λ r. ⌜ r ≡ isOutOfRange (triangleOf x0 y0 x1 y1 x2 y2) ⌝ }
+// Whether one of six numbers, counted from the lower end, is out of range.
+fn is_above_top(x0: u32, y0: u32, x1: u32, y1: u32, x2: u32, y2: u32) -> bool
+    ensures { λ r. ⌜ r ≡ isAboveTop (x0 ∷ y0 ∷ x1 ∷ y1 ∷ x2 ∷ y2 ∷ []) ⌝ }
 {
-    if is_far(x0) {
+    if 2000000 < x0 {
         return true;
     }
-    if is_far(y0) {
+    if 2000000 < y0 {
         return true;
     }
-    if is_far(x1) {
+    if 2000000 < x1 {
         return true;
     }
-    if is_far(y1) {
+    if 2000000 < y1 {
         return true;
     }
-    if is_far(x2) {
+    if 2000000 < x2 {
         return true;
     }
-    is_far(y2)
+    2000000 < y2
 }
 
-// Twice the area as the cross of two differences, which a triangle in range cannot overflow.
-fn is_flat(x0: i32, y0: i32, x1: i32, y1: i32, x2: i32, y2: i32) -> bool
-    requires { ⌜ (natAbs x0 ≤ 1000000) × (natAbs y0 ≤ 1000000) × (natAbs x1 ≤ 1000000) × (natAbs y1 ≤ 1000000) × (natAbs x2 ≤ 1000000) × (natAbs y2 ≤ 1000000) ⌝ }
-    ensures { λ r. ⌜ r ≡ isFlat (triangleOf x0 y0 x1 y1 x2 y2) ⌝ }
+// Twice the area as the cross of two differences, which a triangle in range cannot overflow. Where the numbers are counted from does not matter to it.
+fn is_flat(x0: u32, y0: u32, x1: u32, y1: u32, x2: u32, y2: u32) -> bool
+    requires { ⌜ (x0 ≤ 2000000) × (y0 ≤ 2000000) × (x1 ≤ 2000000) × (y1 ≤ 2000000) × (x2 ≤ 2000000) × (y2 ≤ 2000000) ⌝ }
+    ensures { λ r. ⌜ r ≡ isFlat (triangleOf (pos x0) (pos y0) (pos x1) (pos y1) (pos x2) (pos y2)) ⌝ }
 {
     let a = x1 as i64 - x0 as i64;
     let b = y1 as i64 - y0 as i64;
@@ -88,14 +92,20 @@ fn is_flat(x0: i32, y0: i32, x1: i32, y1: i32, x2: i32, y2: i32) -> bool
     a * d - b * c == 0
 }
 
-// The number of a triangle: 17, 18 or 0.
-pub fn triangle_rule(x0: i32, y0: i32, x1: i32, y1: i32, x2: i32, y2: i32) -> u32
-    ensures { λ r. ⌜ r ≡ triangleRule (triangleOf x0 y0 x1 y1 x2 y2) ⌝ }
+// The number of a triangle, its six numbers given by their 32 bits: 17, 18 or 0.
+pub fn triangle_rule(x0: u32, y0: u32, x1: u32, y1: u32, x2: u32, y2: u32) -> u32
+    ensures { λ r. ⌜ r ≡ triangleRule (triangleOf (signedOf x0) (signedOf y0) (signedOf x1) (signedOf y1) (signedOf x2) (signedOf y2)) ⌝ }
 {
-    if is_out_of_range(x0, y0, x1, y1, x2, y2) {
+    let a = from_bottom(x0);
+    let b = from_bottom(y0);
+    let c = from_bottom(x1);
+    let d = from_bottom(y1);
+    let e = from_bottom(x2);
+    let f = from_bottom(y2);
+    if is_above_top(a, b, c, d, e, f) {
         return 17;
     }
-    if is_flat(x0, y0, x1, y1, x2, y2) {
+    if is_flat(a, b, c, d, e, f) {
         return 18;
     }
     0
