@@ -139,8 +139,9 @@ cases =
     ∷ refusedFile (pairOf v u seven (changed 9 24 1 0 1 1)) 14 60
     ∷ refusedFile (pairOf v u (changed 7 24 1 0 0 0) nine) 14 48
     ∷ refusedFile (pairOf v u seven (changed 9 48 1 0 1 0)) 14 60
-    -- 16, and 14 before it
+    -- 16, of an id that is not the previous one too, and 14 before it
     ∷ refusedFile (pairOf v u seven (changed 7 24 1 0 1 0)) 16 60
+    ∷ refusedFile (v ++ (u ++ (v ++ (seven ++ (nine ++ (changed 7 48 1 0 0 0 ++ trailer 72 3 120)))))) 16 96
     ∷ refusedFile (pairOf v u seven (changed 7 24 1 0 3 0)) 14 60
     -- 15: the last triangle ends beyond the table, also where an entry before it does; no recordings but a triangle
     ∷ refusedFile (pairOf v u seven (changed 9 24 255 255 1 0)) 15 48
