@@ -9,7 +9,7 @@ enum { MOST = 65536 }; /* bytes of a footprint file */
 
 static const char *const sets[] = {"training", "test", "held back"};
 
-/* Six of them are a triangle. */
+/* One stored coordinate; six make a triangle. */
 static int32_t coordinate(const uint8_t *bytes)
 {
     uint32_t bits = bytes[0] | (uint32_t)bytes[1] << 8 | (uint32_t)bytes[2] << 16 | (uint32_t)bytes[3] << 24;

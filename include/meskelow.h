@@ -5,8 +5,9 @@
  *
  * What is proved (docs/PROMISES.md names each theorem): whatever numbers, bytes and lengths are passed, every call ends and
  * returns exactly the answer of the rules, in every bit of every field and of the room; nothing is read or written outside the
- * slices that are lent; nothing is written beyond the first 2n values of the room, and nothing at all by a call that is
- * refused or that is lent a file. Not proved: the compiler's back end, memcpy, and the caller.
+ * slices that are lent; nothing changes beyond the first 2n values of the room (of a NaN there it is proved that it is still a
+ * NaN), and nothing at all by a call that is refused or that is lent a file. Not proved: the compiler's back end, memcpy, and
+ * the caller.
  *
  * What is left to the caller: the lengths are true, so that so many doubles or bytes may be read, and in the room read and
  * written; values and room do not overlap; nobody writes to what is lent before the call has returned; and the processor
@@ -45,19 +46,19 @@ typedef struct {
  * give another answer. Either orientation of either triangle will do. */
 meskelow_answer meskelow_intersect(const double *values, size_t values_len, double *room, size_t room_len);
 
-/* Footprint files: README.md has the format. A file is lent whole, as the bytes that it has; what cannot be read is not a
- * file, and reading it is the caller's. */
+/* Footprint files: README.md has the format. A file is lent whole, as the bytes that it has. Reading it from a disk, and what
+ * can go wrong with that, is the caller's. */
 
 typedef struct {
     uint32_t number;   /* 0: the file has the format. Else the first refusal that applies:
                         *  11  under 12 bytes, or over 65,536
                         *  12  the stored length is not the file's
-                        *  13  over 64 recordings, or table and trailer do not end with the file
-                        *  14  an entry has no triangles, a set over 2 or a last byte other than 0, or begins elsewhere than the one
-                        *      before it ends
-                        *  15  the last triangle does not end at the table
+                        *  13  over 64 recordings, or the table's place + 12 * recordings + 12 is not the length
+                        *  14  an entry has no triangles, a set over 2 or a last byte other than 0, or does not begin where the one
+                        *      before it ends, the first at 0
+                        *  15  the last triangle does not end at the table, or there are no recordings and the table is not at 0
                         *  16  an entry's id was there before
-                        *  17  a coordinate is out of range
+                        *  17  a coordinate is not within -1,000,000 to 1,000,000
                         *  18  a triangle has no area
                         * entries are judged before 15, each for 14 and then for 16; triangles last, each for 17 and then 18 */
     uint32_t place;    /* where: the byte offset of the trailer (13), entry (14, 16), table (15) or triangle (17, 18), else 0 */
