@@ -4,6 +4,7 @@ pub mod Refusals
 pub mod Answers
 pub mod Rows
 pub mod Promise
+pub mod Decision
 pub mod Demand
 pub mod Returned
 pub mod Cases

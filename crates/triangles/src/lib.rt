@@ -10,3 +10,10 @@ pub struct Answer {
     pub v_in_u: [bool; 3],
     pub neighbour: [bool; 3],
 }
+
+// What is decided of two triangles where no corners are asked for: refused with the number, a ring with its area, or apart.
+pub enum Decision {
+    Refused(u32),
+    Ring(f64),
+    Apart,
+}

@@ -1,0 +1,58 @@
+-- The decision of every list of values says the number, the ring and the area of its answer, and no second one does. Assumes nothing.
+use mathlib.Core.Path.{_≡_, refl, sym, ap, _∙_}
+use mathlib.Core.Logic.{_⊎_, inl, inr}
+use mathlib.Core.Bool.{Bool, true, false}
+use mathlib.Core.List.{List, [], _∷_, map}
+use Prim.Native.Nat.{ℕ, zero, suc}
+use native.Mathlib.Omega.{arith}
+use lib.Dec.{eqb}
+use borrow.Author.Tests.{eq-eqb, ne-eqb, eqb-true, eqb-false}
+use lib.Ieee.{Float}
+use lib.ListN.{length}
+use Rattle.floats.specs.Finite.{nought}
+use Rattle.ring.specs.Places.{Place}
+use Rattle.triangles.specs.declared.Answer.{Answer}
+use Rattle.triangles.specs.Pair.{ringOf}
+use Rattle.triangles.specs.Positions.{positionOf, ringPositions, areaOf}
+use Rattle.triangles.specs.Refusals.{refusalOf}
+use Rattle.triangles.specs.Answers.{refusal, answerOf, answered, refused, wholeOf}
+use Rattle.triangles.specs.Decision.{Decided, NoSecondDecision, said, saidOf, enough, answerTo, decided, decisionOf}
+use Rattle.triangles.proofs.Rows.{answered-is, refused-is}
+
+pub unique : NoSecondDecision
+unique values r s p q = p .result-is ∙ sym (q .result-is)
+
+-- without a ring the area is 0.0
+no-ring : (l : List Float) (r : List Place) → length r ≡ 0 → areaOf (map (positionOf l) r) .value ≡ nought
+unfolding areaOf
+no-ring l [] h = refl
+no-ring l (p ∷ r) h = absurd (omega (arith, h))
+
+says-refusal : (k : ℕ) → (k ≡ 0 → ⊥) → said (decided (refusal k)) ≡ saidOf (refusal k)
+unfolding decided
+says-refusal k h = rw (ne-eqb k 0 h) refl
+
+-- an answer without a number says so, with a ring or without
+says-answer : (a : Answer) → a .number ≡ 0 → (a .n ≡ 0 → a .area ≡ nought) → said (decided a) ≡ saidOf a
+unfolding decided
+says-answer a z h = go (eqb (a .n) 0) refl
+  where
+    go : (b : Bool) → eqb (a .n) 0 ≡ b → said (decided a) ≡ saidOf a
+    go true e = rw (z, e, h (eqb-true (a .n) 0 e)) refl
+    go false e = rw (z, e) refl
+
+of-answer : (l : List Float) → said (decided (answerOf l)) ≡ saidOf (answerOf l)
+unfolding answerOf ringPositions
+of-answer l = says-answer (answerOf l) refl (no-ring l (ringOf l))
+
+pub says : (l : List Float) → said (decisionOf l) ≡ saidOf (answerTo l)
+unfolding decisionOf
+says l = go (eqb (refusalOf l enough) 0) refl
+  where
+    go : (b : Bool) → eqb (refusalOf l enough) 0 ≡ b → said (decided (wholeOf l enough .answer)) ≡ saidOf (wholeOf l enough .answer)
+    go true e = rw (answered-is l enough (eqb-true (refusalOf l enough) 0 e)) (unfold answered in of-answer l)
+    go false e = let h = eqb-false (refusalOf l enough) 0 e in rw (refused-is l enough h) (says-refusal (refusalOf l enough) h)
+
+-- the promise of a decision that is the definition's
+pub keeps : (l : List Float) {r : _} → r ≡ decisionOf l → Decided l r
+keeps l h = record { result-is = h; says = ap said h ∙ says l }
