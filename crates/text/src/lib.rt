@@ -1,0 +1,84 @@
+// Decimal numbers and text in a lent room.
+ghost use mathlib.Core.Path.{_≡_};
+ghost use Prim.Native.Nat.{_+_, _%_, _≤_, _<_};
+ghost use lib.ListN.{length};
+ghost use lib.Seq.{sets};
+ghost use Rattle.text.specs.Decimal.{digit as digitOf, decimal};
+ghost use Rattle.text.specs.Room.{Put};
+ghost use Rattle.text.specs.Code.{digits};
+
+// How many digits n has.
+pub fn width(n: u32) -> usize
+    ensures { λ r. ⌜ (r ≡ length (decimal n)) × (r ≤ n + 1) ⌝ }
+{
+    let mut k: usize = 1;
+    let mut m = n;
+    while 10 <= m {
+        m = m / 10;
+        k = k + 1;
+    }
+    k
+}
+
+fn digit(n: u32) -> u8
+    ensures { λ r. ⌜ r ≡ digitOf (n % 10) ⌝ }
+{
+    48 + (n % 10) as u8
+}
+
+// The last k digits of n, from the place on.
+fn put_digits(room: &mut [u8], at: usize, k: usize, n: u32)
+    requires { ⌜ at + k ≤ length (now room) ⌝ }
+    ensures { λ _. ⌜ now (room .exit) ≡ sets (now (room .entry)) at (digits k n) ⌝ }
+{
+    let mut i = k;
+    let mut m = n;
+    while 0 < i {
+        i = i - 1;
+        room[at + i] = digit(m);
+        m = m / 10;
+    }
+}
+
+fn copy(room: &mut [u8], at: usize, bytes: &[u8])
+    requires { ⌜ at + length (now bytes) ≤ length (now room) ⌝ }
+    ensures { λ _. ⌜ now (room .exit) ≡ sets (now (room .entry)) at (now (bytes .entry)) ⌝ }
+{
+    let mut i: usize = 0;
+    while i < bytes.len() {
+        room[at + i] = bytes[i];
+        i = i + 1;
+    }
+}
+
+// Puts n in decimal into the room from a place on and hands back the place behind it. Where it does not fit, nothing is put, and the place stays.
+pub fn put_decimal(room: &mut [u8], at: usize, n: u32) -> usize
+    ensures { λ r. ⌜ Put (now (room .entry)) at (decimal n) (now (room .exit)) r ⌝ }
+{
+    let k = width(n);
+    let most = room.len();
+    if most < k {
+        return at;
+    }
+    if most - k < at {
+        return at;
+    }
+    put_digits(room, at, k, n);
+    at + k
+}
+
+// The same of bytes.
+pub fn put_bytes(room: &mut [u8], at: usize, bytes: &[u8]) -> usize
+    ensures { λ r. ⌜ Put (now (room .entry)) at (now (bytes .entry)) (now (room .exit)) r ⌝ }
+{
+    let k = bytes.len();
+    let most = room.len();
+    if most < k {
+        return at;
+    }
+    if most - k < at {
+        return at;
+    }
+    copy(room, at, bytes);
+    at + k
+}
