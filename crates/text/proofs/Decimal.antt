@@ -47,10 +47,13 @@ reads-back = by-tens (λ n. read (decimal n) ≡ n) small large
   where
     none-before : (n : ℕ) → 10 * 0 + n ≡ n
     none-before n = omega arith
+
     small : (n : ℕ) → n < 10 → read (decimal n) ≡ n
     small n h = ap read (under-ten n h) ∙ (read-last 0 n ∙ none-before n)
+
     again : (n m : ℕ) → m ≡ n / 10 → 10 * m + n % 10 ≡ n
     again n m h = omega (arith, h)
+
     large : (n : ℕ) → 10 ≤ n → read (decimal (n / 10)) ≡ n / 10 → read (decimal n) ≡ n
     large n h tens = ap read (tens-and-last n h) ∙ (read-append 0 (decimal (n / 10)) (digit (n % 10) ∷ []) ∙ (read-last (read (decimal (n / 10))) (n % 10) ∙ again n (read (decimal (n / 10))) tens))
 
@@ -60,8 +63,10 @@ first-digit = by-tens (λ n. 0 < n → getD (decimal n) 0 0 ≡ 48 → ⊥) smal
   where
     first-of : (n : ℕ) → n < 10 → getD (decimal n) 0 0 ≡ 48 + n
     first-of n h = ap (λ t. getD t 0 0) (under-ten n h)
+
     small : (n : ℕ) → n < 10 → 0 < n → getD (decimal n) 0 0 ≡ 48 → ⊥
     small n h p e = let q = sym (first-of n h) ∙ e in omega (arith, q, p)
+
     large : (n : ℕ) → 10 ≤ n → (0 < n / 10 → getD (decimal (n / 10)) 0 0 ≡ 48 → ⊥) → 0 < n → getD (decimal n) 0 0 ≡ 48 → ⊥
     large n h tens p e =
         tens (omega (arith, h)) (sym (List·getD-append (decimal (n / 10)) (digit (n % 10) ∷ []) 0 0 (some-digit (n / 10))) ∙ (ap (λ t. getD t 0 0) (sym (tens-and-last n h)) ∙ e))

@@ -88,8 +88,10 @@ all-digits = by-tens (λ n. digits (length (decimal n)) n ≡ decimal n) small l
   where
     last : (n : ℕ) → n < 10 → n % 10 ≡ n
     last n h = omega (arith, h)
+
     small : (n : ℕ) → n < 10 → digits (length (decimal n)) n ≡ decimal n
     small n h = ap (λ k. digits k n) (width-small n h) ∙ (digits-suc 0 n ∙ (ap₂ (λ t d. t ++ (digit d ∷ [])) (digits-none (n / 10)) (last n h) ∙ sym (under-ten n h)))
+
     large : (n : ℕ) → 10 ≤ n → digits (length (decimal (n / 10))) (n / 10) ≡ decimal (n / 10) → digits (length (decimal n)) n ≡ decimal n
     large n h tens =
         ap (λ k. digits k n) (width-large n h ∙ add-one (length (decimal (n / 10))))
@@ -140,6 +142,7 @@ put-all room text after at k e h p = record { after-is = p ∙ (sets-eq text roo
   where
     fit : at + length text ≤ length room
     fit = subst (λ n. at + n ≤ length room) e h
+
     yes : leb (at + length text) (length room) ≡ true
     yes = le-leb (at + length text) (length room) fit
 
