@@ -28,17 +28,14 @@ pub by-tens : (P : ℕ → Type 0) → ((n : ℕ) → n < 10 → P n) → ((n : 
 by-tens P small large n = up-to P small large n n (omega arith)
 
 -- ---- decimals
-by-suc : (f n : ℕ) → decimalBy (suc f) n ≡ cond (ltb n 10) (digit n ∷ []) (decimalBy f (n / 10) ++ (digit (n % 10) ∷ []))
-unfolding decimalBy
-by-suc f n = refl
-
 by-small : (f n : ℕ) → n < 10 → decimalBy f n ≡ digit n ∷ []
 unfolding decimalBy
 by-small zero n h = refl
 by-small (suc f) n h = rw (lt-ltb n 10 h) refl
 
 by-large : (f n : ℕ) → 10 ≤ n → decimalBy (suc f) n ≡ decimalBy f (n / 10) ++ (digit (n % 10) ∷ [])
-by-large f n h = by-suc f n ∙ rw (le-ltb n 10 h) refl
+unfolding decimalBy
+by-large f n h = rw (le-ltb n 10 h) refl
 
 -- more tens than a number has change nothing
 by-more : (f g n : ℕ) → n ≤ f → n ≤ g → decimalBy f n ≡ decimalBy g n

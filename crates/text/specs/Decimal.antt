@@ -1,7 +1,7 @@
 -- 01, "The leak list": numbers are decimal. Definitions and statements.
 use Prim.Native.Nat.{ℕ, zero, suc, _+_, _-_, _*_, _/_, _%_, _<_, _≤_}
 use mathlib.Core.Path.{_≡_}
-use mathlib.Core.Bool.{cond}
+use mathlib.Core.Bool.{Bool, true, false}
 use mathlib.Core.List.{List, [], _∷_, _++_, List·Memᴰ}
 use lib.Dec.{ltb}
 use lib.ListN.{length, getD}
@@ -10,12 +10,17 @@ use lib.ListN.{length, getD}
 abbrev pub digit : ℕ → ℕ
 digit d = 48 + d
 
--- a number under ten is its digit; any other is its tens, and then its last digit. At most so many tens are taken
+-- a number under ten is its digit; any other is its tens, put down by `tens`, and then its last digit
+abbrev pub putDown : Bool → (ℕ → List ℕ) → ℕ → List ℕ
+putDown true tens n = digit n ∷ []
+putDown false tens n = tens (n / 10) ++ (digit (n % 10) ∷ [])
+
+-- .. and so on with the tens, so many times at most
 unfoldable pub decimalBy : ℕ → ℕ → List ℕ
 decimalBy zero n = digit n ∷ []
-decimalBy (suc tens) n = cond (ltb n 10) (digit n ∷ []) (decimalBy tens (n / 10) ++ (digit (n % 10) ∷ []))
+decimalBy (suc times) n = putDown (ltb n 10) (decimalBy times) n
 
--- n has fewer tens than it is large
+-- n times are enough
 unfoldable pub decimal : ℕ → List ℕ
 unfolding decimalBy
 decimal n = decimalBy n n

@@ -1,0 +1,1 @@
+-- Laws of things taken in turn. Assumes nothing.

@@ -1,0 +1,43 @@
+-- 01, "The leak list": the list in lent room, refusal 7, and what the program writes. Definitions only.
+use Prim.Native.Nat.{ℕ}
+use mathlib.Core.Bool.{cond}
+use mathlib.Core.List.{List, _++_}
+use lib.Dec.{ltb}
+use lib.ListN.{length, drop}
+use Rattle.layout.specs.declared.Verdict.{Verdict}
+use Rattle.layout.specs.Verdict.{said}
+use Rattle.layout.specs.Recordings.{unlessRefused}
+use Rattle.listing.specs.declared.Listed.{Listed}
+use Rattle.listing.specs.Leaks.{leaks}
+use Rattle.listing.specs.Words.{listText, refusedLine}
+
+-- what is answered, and the room afterwards
+pub record Whole : Type 0 where
+  pub result : Listed
+  pub room : List ℕ
+
+-- a refusal: its number and place, all else zero, and the room as it was
+abbrev pub refused : List ℕ → Verdict → Whole
+refused room v = record { result = record { number = v .number; place = v .place; length = 0; leaks = 0 }; room = room }
+
+-- the room is shorter than the whole list
+abbrev pub tooShort : Verdict
+tooShort = said 7 0
+
+-- a text at the front of the room; the rest stays
+abbrev pub written : List ℕ → List ℕ → List ℕ
+written text room = text ++ drop (length text) room
+
+unfoldable pub answered : List ℕ → List ℕ → Whole
+unfolding listText leaks
+answered file room = record { result = record { number = 0; place = 0; length = length (listText file); leaks = length (leaks file) }; room = written (listText file) room }
+
+-- the file's own refusals first, then 7, then the list
+unfoldable pub listOf : List ℕ → List ℕ → Whole
+unfolding unlessRefused answered listText
+listOf file room = unlessRefused file (refused room) (cond (ltb (length room) (length (listText file))) (refused room tooShort) (answered file room))
+
+-- what the program writes: the list, or one line that says how the file is refused
+unfoldable pub outputOf : List ℕ → List ℕ
+unfolding unlessRefused listText refusedLine
+outputOf file = unlessRefused file refusedLine (listText file)

@@ -1,0 +1,52 @@
+-- 01, "The leak list": the triangle pairs of a test and a training recording, their decisions in order, and how many meet. Definitions only.
+use Prim.Native.Nat.{ℕ, _+_, _*_}
+use mathlib.Core.Bool.{Bool}
+use mathlib.Core.List.{List, [], _∷_, _++_, map}
+use lib.Dec.{eqb}
+use lib.Ieee.{Float}
+use Rattle.floats.specs.Lists.{once}
+use Rattle.triangles.specs.declared.Decision.{Decision}
+use Rattle.triangles.specs.Decision.{decisionOf, meets}
+use Rattle.layout.specs.declared.Entry.{Entry}
+use Rattle.layout.specs.Recordings.{f64At}
+use Rattle.listing.specs.declared.Tally.{Tally}
+use Rattle.listing.specs.Turns.{upTo, each, folded}
+
+-- a recording's set: 0 is training, 1 is test
+abbrev pub isTest : Entry → Bool
+isTest e = eqb (e .set) 1
+
+abbrev pub isTraining : Entry → Bool
+isTraining e = eqb (e .set) 0
+
+-- where triangle a of a recording stands
+abbrev pub placeIn : Entry → ℕ → ℕ
+placeIn e a = e .first + 24 * a
+
+module _ (file : List ℕ) where
+  -- the coordinates of the triangle at a place
+  unfoldable pub coordinatesAt : ℕ → List Float
+  unfolding f64At
+  coordinatesAt at = f64At file at ∷ f64At file (at + 4) ∷ f64At file (at + 8) ∷ f64At file (at + 12) ∷ f64At file (at + 16) ∷ f64At file (at + 20) ∷ []
+
+  -- the test triangle a is U, the training triangle b is V
+  unfoldable pub decisionAt : Entry → Entry → ℕ → ℕ → Decision
+  unfolding coordinatesAt decisionOf
+  decisionAt test train a b = decisionOf (coordinatesAt (placeIn test a) ++ coordinatesAt (placeIn train b))
+
+  -- the test triangles in stored order, each with the training triangles in stored order
+  unfoldable pub decisions : Entry → Entry → List Decision
+  unfolding decisionAt upTo each
+  decisions test train = each (λ a. map (decisionAt test train a) (upTo (train .count))) (upTo (test .count))
+
+-- nothing counted yet, and one more decision counted
+abbrev pub noneYet : Tally
+noneYet = record { meeting = 0 }
+
+abbrev pub tallied : Tally → Decision → Tally
+tallied t d = record { meeting = t .meeting + once (meets d) }
+
+-- all of them counted, in their order
+unfoldable pub tallyOf : List ℕ → Entry → Entry → Tally
+unfolding decisions folded
+tallyOf file test train = folded tallied noneYet (decisions file test train)
