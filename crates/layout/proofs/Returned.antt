@@ -57,7 +57,7 @@ module _ (file : List ℕ) where
   pub number-good : verdict file .number ≡ 0 → verdict file ≡ good
   number-good z = ⊎-elim (λ g. g) (λ w. let t = in-table (w .0) in let q : numberOf (w .0) ≡ 0 = sym (ap (λ (v : Verdict). v .number) (w .1)) ∙ z in absurd (omega (arith, t .0))) (exactly-when file .nothingElse)
 
-  number-range : (verdict file .number ≡ 0 → ⊥) → (11 ≤ verdict file .number) × (verdict file .number ≤ 18)
+  pub number-range : (verdict file .number ≡ 0 → ⊥) → (11 ≤ verdict file .number) × (verdict file .number ≤ 18)
   number-range h = ⊎-elim
       (λ g. absurd (h (ap (λ (v : Verdict). v .number) g)))
       (λ w. let t = in-table (w .0) in let q : verdict file .number ≡ numberOf (w .0) = ap (λ (v : Verdict). v .number) (w .1) in (omega (arith, t .0), omega (arith, t .1)))

@@ -1,2 +1,6 @@
 pub mod Turns
+pub mod Tallied
+pub mod Demand
+pub mod Ids
+pub mod Returned
 pub mod Worked

@@ -19,21 +19,26 @@ whole : Case → Whole
 unfolding listOf
 whole c = listOf (c .file) (pointsOf (c .room))
 
+-- a whole answer and what is written, against what is to be shown of a case
+fits : Case → Whole → List ℕ → Bool
+unfolding sameBytes
+fits c w output =
+    eqb (w .result .number) (c .number)
+    && (eqb (w .result .place) (c .place)
+    && (eqb (w .result .length) (c .length)
+    && (eqb (w .result .leaks) (c .leaks)
+    && (sameBytes (w .room) (c .front ++ pointsOf (c .points)) && sameBytes output (c .output)))))
+
 right : Case → Bool
-unfolding sameBytes whole outputOf
-right c =
-    eqb (whole c .result .number) (c .number)
-    && (eqb (whole c .result .place) (c .place)
-    && (eqb (whole c .result .length) (c .length)
-    && (eqb (whole c .result .leaks) (c .leaks)
-    && (sameBytes (whole c .room) (c .front ++ pointsOf (c .points)) && sameBytes (outputOf (c .file)) (c .output)))))
+unfolding fits whole outputOf
+right c = fits c (whole c) (outputOf (c .file))
 
 all-right : T (all right cases)
 unfolding all right add sub mul div neg lt le eq ofInt ofBits
 all-right = tt
 
 shown : (c : Case) → T (right c) → Shown c
-unfolding right sameBytes whole
+unfolding right fits sameBytes whole
 shown c t0 =
     let w = listOf (c .file) (pointsOf (c .room)) in
     let B0 = eqb (w .result .number) (c .number) in

@@ -1,1 +1,76 @@
--- to come
+-- Demand 2 of the leak list: which lines there are, in which order, and what stands in them, in facts about the file's recordings and triangles. Statements only.
+use Prim.Native.Nat.{ℕ, _+_, _*_, _<_, _≤_}
+use mathlib.Core.Path.{_≡_}
+use mathlib.Core.Logic.{_⊎_, _↔_}
+use mathlib.Core.Bool.{true}
+use mathlib.Core.List.{List, List·Memᴰ}
+use lib.ListN.{length, getD}
+use Rattle.floats.specs.Lists.{count}
+use Rattle.triangles.specs.declared.Decision.{Decision}
+use Rattle.triangles.specs.declared.Decision.the-variants.{Refused, Apart}
+use Rattle.triangles.specs.Decision.{meets}
+use Rattle.layout.specs.Parts.{countOf, entryAt}
+use Rattle.layout.specs.Layout.{Layout}
+use Rattle.listing.specs.Pairs.{decisionAt, decisions}
+use Rattle.listing.specs.Leaks.{Leak, pairsMeeting, leakPairs, leakOf, leaks}
+
+-- the triangles a of recording i, as U, and b of recording j, as V, meet
+abbrev pub Meet : List ℕ → ℕ → ℕ → ℕ → ℕ → Type 0
+Meet file i j a b = meets (decisionAt file (entryAt file i) (entryAt file j) a b) ≡ true
+
+-- i is a test recording and j a training recording, and at least one of their triangle pairs meets
+pub record Leaking (file : List ℕ) (i j : ℕ) : Type 0 where
+  pub recording : i < countOf file
+  pub test : entryAt file i .set ≡ 1
+  pub other : j < countOf file
+  pub training : entryAt file j .set ≡ 0
+  pub pair : (a : ℕ) × (b : ℕ) × (a < entryAt file i .count) × (b < entryAt file j .count) × Meet file i j a b
+
+-- table order: of test recordings, and of training recordings within a test recording
+abbrev pub Before : ℕ × ℕ → ℕ × ℕ → Type 0
+Before p q = (p .0 < q .0) ⊎ ((p .0 ≡ q .0) × (p .1 < q .1))
+
+-- every triangle pair of two recordings is decided, once: test triangles in stored order, with each the training triangles in stored order
+pub record AllDecided (file : List ℕ) (i j : ℕ) : Type 0 where
+  pub howMany : length (decisions file (entryAt file i) (entryAt file j)) ≡ entryAt file i .count * entryAt file j .count
+  pub inTurn : (a b : ℕ) → a < entryAt file i .count → b < entryAt file j .count → getD (decisions file (entryAt file i) (entryAt file j)) (a * entryAt file j .count + b) Apart ≡ decisionAt file (entryAt file i) (entryAt file j) a b
+
+-- line k of the list, by its pair of recordings; beyond the end, that of none
+abbrev pub lineFor : List ℕ → ℕ → ℕ × ℕ
+lineFor file k = getD (leakPairs file) k (0, 0)
+
+abbrev pub noLeak : Leak
+noLeak = record { test = 0; train = 0; pairs = 0 }
+
+pub record Demand2 (file : List ℕ) : Type 0 where
+  -- a line stands there for two recordings if and only if they leak, and for no other two
+  pub exactlyIf : (i j : ℕ) → List·Memᴰ (i, j) (leakPairs file) ↔ Leaking file i j
+  -- the lines are in table order; so no two are for the same two recordings
+  pub inOrder : (k l : ℕ) → k < l → l < length (leakPairs file) → Before (lineFor file k) (lineFor file l)
+  pub once : (k l : ℕ) → k < length (leakPairs file) → l < length (leakPairs file) → lineFor file k ≡ lineFor file l → k ≡ l
+  -- a line has the ids of its two recordings and N, and N is how many of their triangle pairs meet
+  pub asMany : length (leaks file) ≡ length (leakPairs file)
+  pub line : (k : ℕ) → k < length (leakPairs file) → getD (leaks file) k noLeak ≡ leakOf file (lineFor file k)
+  pub counted : (i j : ℕ) → pairsMeeting file (i, j) ≡ count meets (decisions file (entryAt file i) (entryAt file j))
+  pub decided : (i j : ℕ) → AllDecided file i j
+  -- a held back recording has no part in any line
+  pub noHeldBack : (i j k : ℕ) → List·Memᴰ (i, j) (leakPairs file) → entryAt file k .set ≡ 2 → (i ≡ k → ⊥) × (j ≡ k → ⊥)
+
+abbrev pub DemandTwo : Type 0
+DemandTwo = (file : List ℕ) → Demand2 file
+
+-- of a good file ids stand for recordings, so the same can be said of what is read in the list
+pub record ByIds (file : List ℕ) : Type 0 where
+  -- the id of a held back recording is in no line
+  pub noHeldBack : (l : Leak) → List·Memᴰ l (leaks file) → (k : ℕ) → k < countOf file → entryAt file k .set ≡ 2 → (l .test ≡ entryAt file k .id → ⊥) × (l .train ≡ entryAt file k .id → ⊥)
+  -- no two lines name the same two ids
+  pub once : (k l : ℕ) → k < length (leaks file) → l < length (leaks file) → getD (leaks file) k noLeak .test ≡ getD (leaks file) l noLeak .test → getD (leaks file) k noLeak .train ≡ getD (leaks file) l noLeak .train → k ≡ l
+  -- every line has an N of at least one
+  pub some : (l : Leak) → List·Memᴰ l (leaks file) → 0 < l .pairs
+
+abbrev pub LinesById : Type 0
+LinesById = (file : List ℕ) → Layout file → ByIds file
+
+-- from an accepted file no triangle pair is refused
+abbrev pub NoneRefused : Type 0
+NoneRefused = (file : List ℕ) → Layout file → (i j a b : ℕ) → i < countOf file → j < countOf file → a < entryAt file i .count → b < entryAt file j .count → (k : ℕ) → decisionAt file (entryAt file i) (entryAt file j) a b ≡ Refused k → ⊥

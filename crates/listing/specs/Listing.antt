@@ -28,14 +28,14 @@ tooShort = said 7 0
 abbrev pub written : List ℕ → List ℕ → List ℕ
 written text room = text ++ drop (length text) room
 
-unfoldable pub answered : List ℕ → List ℕ → Whole
-unfolding listText leaks
-answered file room = record { result = record { number = 0; place = 0; length = length (listText file); leaks = length (leaks file) }; room = written (listText file) room }
+-- the list and its number of leaks: its length is told, and it stands in the room
+abbrev pub answered : List ℕ → List ℕ → ℕ → Whole
+answered room text k = record { result = record { number = 0; place = 0; length = length text; leaks = k }; room = written text room }
 
 -- the file's own refusals first, then 7, then the list
 unfoldable pub listOf : List ℕ → List ℕ → Whole
-unfolding unlessRefused answered listText
-listOf file room = unlessRefused file (refused room) (cond (ltb (length room) (length (listText file))) (refused room tooShort) (answered file room))
+unfolding unlessRefused listText leaks
+listOf file room = let text = listText file in unlessRefused file (refused room) (cond (ltb (length room) (length text)) (refused room tooShort) (answered room text (length (leaks file))))
 
 -- what the program writes: the list, or one line that says how the file is refused
 unfoldable pub outputOf : List ℕ → List ℕ

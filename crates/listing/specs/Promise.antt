@@ -1,9 +1,16 @@
--- What the writer of the list promises of its result and of the lent room, for all bytes and all rooms. Statements only.
+-- What the writer of the list promises of its result and of the lent room, for all bytes and all rooms, and demands 1 and 2 of the list, read off the promise. Statements only.
+use Prim.Native.Nat.{ℕ, _<_, _≤_}
 use mathlib.Core.Path.{_≡_}
+use mathlib.Core.Logic.{_⊎_, _↔_}
 use mathlib.Core.List.{List}
-use Prim.Native.Nat.{ℕ}
+use lib.ListN.{length, take, drop}
+use Rattle.layout.specs.Verdict.{verdict}
+use Rattle.layout.specs.Layout.{Layout}
 use Rattle.listing.specs.declared.Listed.{Listed}
-use Rattle.listing.specs.Listing.{listOf}
+use Rattle.listing.specs.Leaks.{leaks}
+use Rattle.listing.specs.Words.{listText, refusedLine}
+use Rattle.listing.specs.Listing.{listOf, outputOf}
+use Rattle.listing.specs.Demand.{Demand2}
 
 pub record Promise (file room : List ℕ) (result : Listed) (after : List ℕ) : Type 0 where
   pub result-is : result ≡ listOf file room .result
@@ -12,3 +19,38 @@ pub record Promise (file room : List ℕ) (result : Listed) (after : List ℕ) :
 -- no second result and no second room meets it
 abbrev pub NoSecondAnswer : Type 0
 NoSecondAnswer = (file room : List ℕ) (r s : Listed) (a b : List ℕ) → Promise file room r a → Promise file room s b → (r ≡ s) × (a ≡ b)
+
+pub record Demand1 (file room : List ℕ) (result : Listed) (after : List ℕ) : Type 0 where
+  -- a refused file answers with its own number and place, whatever the room
+  pub fileFirst : (verdict file .number ≡ 0 → ⊥) → (result .number ≡ verdict file .number) × (result .place ≡ verdict file .place)
+  -- 7 exactly if the file is good and the room shorter than the whole list; an answer exactly if the file is good and the list fits
+  pub tooShort : (result .number ≡ 7) ↔ (Layout file × (length room < length (listText file)))
+  pub answered : (result .number ≡ 0) ↔ (Layout file × (length (listText file) ≤ length room))
+  pub noPlace : (result .number ≡ 0) ⊎ (result .number ≡ 7) → result .place ≡ 0
+  -- the numbers are 7 and 11 to 18, and with a refusal come zeros and the room as it was
+  pub numbers : (result .number ≡ 0 → ⊥) → (result .number ≡ 7) ⊎ ((11 ≤ result .number) × (result .number ≤ 18))
+  pub zeros : (result .number ≡ 0 → ⊥) → (result .length ≡ 0) × (result .leaks ≡ 0) × (after ≡ room)
+  -- refused or not: the room keeps its length, and what lies behind the list
+  pub sameLength : length after ≡ length room
+  pub rest : drop (result .length) after ≡ drop (result .length) room
+
+abbrev pub ReturnedOne : Type 0
+ReturnedOne = (file room : List ℕ) (result : Listed) (after : List ℕ) → Promise file room result after → Demand1 file room result after
+
+-- of an answer: the front of the room is the list, of which all of demand 2 holds
+pub record Written (file : List ℕ) (result : Listed) (after : List ℕ) : Type 0 where
+  pub length-is : result .length ≡ length (listText file)
+  pub leaks-is : result .leaks ≡ length (leaks file)
+  pub text : take (result .length) after ≡ listText file
+  pub demand : Demand2 file
+
+abbrev pub ReturnedTwo : Type 0
+ReturnedTwo = (file room : List ℕ) (result : Listed) (after : List ℕ) → Promise file room result after → result .number ≡ 0 → Written file result after
+
+-- what the program is promised to write: of a good file the list, of any other the line with its refusal
+pub record Output (file : List ℕ) : Type 0 where
+  pub good : Layout file → outputOf file ≡ listText file
+  pub refused : (Layout file → ⊥) → outputOf file ≡ refusedLine (verdict file)
+
+abbrev pub Outputs : Type 0
+Outputs = (file : List ℕ) → Output file

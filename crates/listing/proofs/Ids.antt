@@ -1,0 +1,77 @@
+-- Of a good file ids stand for recordings: what holds of the recordings of a line holds of the ids in it. Assumes nothing.
+use Prim.Native.Nat.{ℕ, _<_}
+use mathlib.Core.Path.{_≡_, refl, sym, ap, ap₂, subst, _∙_}
+use mathlib.Core.Bool.{Bool, true, false}
+use mathlib.Core.List.{List, List·Memᴰ}
+use native.Mathlib.Omega.{arith}
+use lib.Dec.{ltb}
+use borrow.Author.Tests.{ltb-true, ltb-false}
+use lib.ListN.{length, getD}
+use Rattle.layout.specs.Parts.{countOf, entryAt}
+use Rattle.layout.specs.Layout.{Layout}
+use Rattle.listing.specs.Leaks.{Leak, recordingPairs, pairsMeeting, isLeak, leakPairs, leakOf, leaks}
+use Rattle.listing.specs.Demand.{Leaking, lineFor, noLeak, Demand2, LinesById}
+use Rattle.listing.proofs.Turns.{passed, unmapped, member-at}
+use Rattle.listing.proofs.Demand.{demand2}
+
+module _ (file : List ℕ) (good : Layout file) where
+  same-id : (i j : ℕ) → i < countOf file → j < countOf file → entryAt file i .id ≡ entryAt file j .id → i ≡ j
+  same-id i j h g e = go (ltb i j) refl (ltb j i) refl
+    where
+      go : (b : Bool) → ltb i j ≡ b → (c : Bool) → ltb j i ≡ c → i ≡ j
+      go true p c q = absurd (good .idsOnce i j (ltb-true i j p) g e)
+      go false p true q = absurd (good .idsOnce j i (ltb-true j i q) h (sym e))
+      go false p false q = omega (arith, ltb-false i j p, ltb-false j i q)
+
+  -- a line's two recordings
+  of-line : {l : Leak} → List·Memᴰ l (leaks file) → (p : ℕ × ℕ) × List·Memᴰ p (leakPairs file) × (l ≡ leakOf file p)
+  unfolding leaks
+  of-line m = unmapped (leakOf file) (leakPairs file) m
+
+  leaks-at : (p : ℕ × ℕ) → List·Memᴰ p (leakPairs file) → Leaking file (p .0) (p .1)
+  leaks-at p m = demand2 file .exactlyIf (p .0) (p .1) .0 m
+
+  test-of : (p : ℕ × ℕ) → leakOf file p .test ≡ entryAt file (p .0) .id
+  unfolding leakOf
+  test-of p = refl
+
+  train-of : (p : ℕ × ℕ) → leakOf file p .train ≡ entryAt file (p .1) .id
+  unfolding leakOf
+  train-of p = refl
+
+  pairs-of : (p : ℕ × ℕ) → leakOf file p .pairs ≡ pairsMeeting file p
+  unfolding leakOf
+  pairs-of p = refl
+
+  no-held-back : (l : Leak) → List·Memᴰ l (leaks file) → (k : ℕ) → k < countOf file → entryAt file k .set ≡ 2 → (l .test ≡ entryAt file k .id → ⊥) × (l .train ≡ entryAt file k .id → ⊥)
+  no-held-back l m k h e =
+      let r = of-line m in
+      let p = r .0 in
+      let q = leaks-at p (r .1) in
+      let n = demand2 file .noHeldBack (p .0) (p .1) k (r .1) e in (
+        λ z. n .0 (same-id (p .0) k (q .recording) h (sym (test-of p) ∙ (ap (λ l. l .test) (sym (r .2)) ∙ z))),
+        λ z. n .1 (same-id (p .1) k (q .other) h (sym (train-of p) ∙ (ap (λ l. l .train) (sym (r .2)) ∙ z))),
+      )
+
+  once : (k l : ℕ) → k < length (leaks file) → l < length (leaks file) → getD (leaks file) k noLeak .test ≡ getD (leaks file) l noLeak .test → getD (leaks file) k noLeak .train ≡ getD (leaks file) l noLeak .train → k ≡ l
+  once k l h g e f =
+      let d = demand2 file in
+      let m = subst (λ n. k < n) (d .asMany) h in
+      let n = subst (λ n. l < n) (d .asMany) g in
+      let p = lineFor file k in
+      let q = lineFor file l in
+      let u = leaks-at p (member-at (leakPairs file) (0, 0) k m) in
+      let v = leaks-at q (member-at (leakPairs file) (0, 0) l n) in
+      let first = same-id (p .0) (q .0) (u .recording) (v .recording) (sym (test-of p) ∙ (ap (λ l. l .test) (sym (d .line k m)) ∙ (e ∙ (ap (λ l. l .test) (d .line l n) ∙ test-of q)))) in
+      let second = same-id (p .1) (q .1) (u .other) (v .other) (sym (train-of p) ∙ (ap (λ l. l .train) (sym (d .line k m)) ∙ (f ∙ (ap (λ l. l .train) (d .line l n) ∙ train-of q)))) in
+      d .once k l m n (ap₂ (λ i j. (i, j)) first second)
+
+  some-pair : {p : ℕ × ℕ} → List·Memᴰ p (leakPairs file) → 0 < pairsMeeting file p
+  unfolding leakPairs
+  some-pair {p} m = ltb-true 0 (pairsMeeting file p) (passed (isLeak file) (recordingPairs file) m .1)
+
+  some : (l : Leak) → List·Memᴰ l (leaks file) → 0 < l .pairs
+  some l m = let r = of-line m in subst (λ n. 0 < n) (sym (ap (λ l. l .pairs) (r .2) ∙ pairs-of (r .0))) (some-pair (r .1))
+
+pub lines-by-id : LinesById
+lines-by-id file good = record { noHeldBack = no-held-back file good; once = once file good; some = some file good }

@@ -1,0 +1,138 @@
+-- No second answer fits, and demands 1 and 2 of the list, each read off the promise. Assumes nothing.
+use Prim.Native.Nat.{ℕ, _+_, _-_, _<_, _≤_}
+use mathlib.Core.Path.{_≡_, refl, sym, ap, subst, _∙_}
+use mathlib.Core.Logic.{_⊎_, inl, inr}
+use mathlib.Core.Bool.{Bool, true, false, cond}
+use mathlib.Core.List.{List, _++_}
+use native.Mathlib.Omega.{arith}
+use lib.Dec.{eqb, ltb}
+use borrow.Author.Tests.{eq-eqb, ne-eqb, eqb-true, eqb-false, lt-ltb, le-ltb, ltb-true, ltb-false}
+use lib.ListN.{length, take, drop, length-append, length-drop}
+use lib.Seq.{take-append-seam, drop-append-seam}
+use Rattle.layout.specs.declared.Verdict.{Verdict}
+use Rattle.layout.specs.Verdict.{verdict, good}
+use Rattle.layout.specs.Layout.{Layout}
+use Rattle.layout.proofs.Returned.{number-good, number-range, is-good, has-layout, file-first, not-refused}
+use Rattle.listing.specs.declared.Listed.{Listed}
+use Rattle.listing.specs.Leaks.{leaks}
+use Rattle.listing.specs.Words.{listText, refusedLine}
+use Rattle.listing.specs.Listing.{Whole, refused, tooShort, written, answered, listOf, outputOf}
+use Rattle.listing.specs.Promise.{Promise, NoSecondAnswer, Demand1, ReturnedOne, Written, ReturnedTwo, Output, Outputs}
+use Rattle.listing.proofs.Demand.{demand2}
+
+pub unique : NoSecondAnswer
+unique file room r s a b p q = (p .result-is ∙ sym (q .result-is), p .after-is ∙ sym (q .after-is))
+
+module _ (file room : List ℕ) where
+  -- ---- the three ways
+  pub by-file : (verdict file .number ≡ 0 → ⊥) → listOf file room ≡ refused room (verdict file)
+  unfolding listOf
+  by-file h = file-first Whole file (refused room) _ h
+
+  past-file : verdict file .number ≡ 0 → listOf file room ≡ cond (ltb (length room) (length (listText file))) (refused room tooShort) (answered room (listText file) (length (leaks file)))
+  unfolding listOf
+  past-file z = not-refused file (refused room) _ z
+
+  pub by-room : verdict file .number ≡ 0 → length room < length (listText file) → listOf file room ≡ refused room tooShort
+  by-room z h = past-file z ∙ rw (lt-ltb (length room) (length (listText file)) h) refl
+
+  pub by-list : verdict file .number ≡ 0 → length (listText file) ≤ length room → listOf file room ≡ answered room (listText file) (length (leaks file))
+  by-list z h = past-file z ∙ rw (le-ltb (length room) (length (listText file)) h) refl
+
+  data Kind : Type 0 where
+    byFile : (verdict file .number ≡ 0 → ⊥) → Kind
+    byRoom : verdict file .number ≡ 0 → length room < length (listText file) → Kind
+    byList : verdict file .number ≡ 0 → length (listText file) ≤ length room → Kind
+
+  kind : Kind
+  kind = go (eqb (verdict file .number) 0) (ltb (length room) (length (listText file))) refl refl
+    where
+      go : (a b : Bool) → eqb (verdict file .number) 0 ≡ a → ltb (length room) (length (listText file)) ≡ b → Kind
+      go false b p q = byFile (eqb-false _ _ p)
+      go true true p q = byRoom (eqb-true _ _ p) (ltb-true _ _ q)
+      go true false p q = byList (eqb-true _ _ p) (ltb-false _ _ q)
+
+  -- ---- demand 1
+  refusal-file : (h : verdict file .number ≡ 0 → ⊥) → Demand1 file room (refused room (verdict file) .result) room
+  refusal-file h =
+      let n = number-range file h in
+      record {
+        fileFirst = λ z. (refl, refl);
+        tooShort = (λ z. let g = n .0 in absurd (omega (arith, z, g)), λ z. absurd (h (is-good file (z .0))));
+        answered = (λ z. absurd (h z), λ z. absurd (h (is-good file (z .0))));
+        noPlace = λ z. absurd (no-kind (verdict file .number) (n .0) z);
+        numbers = λ z. inr n;
+        zeros = λ z. (refl, refl, refl);
+        sameLength = refl;
+        rest = refl;
+      }
+    where
+      no-kind : (k : ℕ) → 11 ≤ k → (k ≡ 0) ⊎ (k ≡ 7) → ⊥
+      no-kind k h (inl z) = omega (arith, h, z)
+      no-kind k h (inr z) = omega (arith, h, z)
+
+  refusal-room : (z : verdict file .number ≡ 0) → length room < length (listText file) → Demand1 file room (refused room tooShort .result) room
+  refusal-room z h = record {
+    fileFirst = λ n. absurd (n z);
+    tooShort = (λ e. (has-layout file z, h), λ p. refl);
+    answered = (λ e. absurd (omega (arith, e)), λ p. let g = p .1 in absurd (omega (arith, g, h)));
+    noPlace = λ e. refl;
+    numbers = λ e. inl refl;
+    zeros = λ e. (refl, refl, refl);
+    sameLength = refl;
+    rest = refl;
+  }
+
+  length-written : (text : List ℕ) → length text ≤ length room → length (written text room) ≡ length room
+  length-written text h = length-append text (drop (length text) room) ∙ (ap (λ n. length text + n) (length-drop (length text) room) ∙ back (length text) (length room) h)
+    where
+      back : (a b : ℕ) → a ≤ b → a + (b - a) ≡ b
+      back a b h = omega (arith, h)
+
+  an-answer : (z : verdict file .number ≡ 0) → length (listText file) ≤ length room → Demand1 file room (answered room (listText file) (length (leaks file)) .result) (written (listText file) room)
+  an-answer z h = record {
+    fileFirst = λ n. absurd (n z);
+    tooShort = (λ e. absurd (omega (arith, e)), λ p. let g = p .1 in absurd (omega (arith, g, h)));
+    answered = (λ e. (has-layout file z, h), λ p. refl);
+    noPlace = λ e. refl;
+    numbers = λ e. absurd (e refl);
+    zeros = λ e. absurd (e refl);
+    sameLength = length-written (listText file) h;
+    rest = drop-append-seam (listText file) (drop (length (listText file)) room);
+  }
+
+  demand1 : Demand1 file room (listOf file room .result) (listOf file room .room)
+  demand1 = go kind
+    where
+      go : Kind → Demand1 file room (listOf file room .result) (listOf file room .room)
+      go (byFile h) = rw (by-file h) (refusal-file h)
+      go (byRoom z h) = rw (by-room z h) (refusal-room z h)
+      go (byList z h) = rw (by-list z h) (an-answer z h)
+
+  -- ---- demand 2
+  listed : listOf file room .result .number ≡ 0 → Written file (listOf file room .result) (listOf file room .room)
+  listed n = go kind
+    where
+      go : Kind → Written file (listOf file room .result) (listOf file room .room)
+      go (byFile h) = absurd (h (ap (λ w. w .result .number) (sym (by-file h)) ∙ n))
+      go (byRoom z h) = let e : _≡_ {A = ℕ} 7 0 = ap (λ w. w .result .number) (sym (by-room z h)) ∙ n in absurd (omega (arith, e))
+      go (byList z h) = rw (by-list z h) (record {
+        length-is = refl;
+        leaks-is = refl;
+        text = take-append-seam (listText file) (drop (length (listText file)) room);
+        demand = demand2 file;
+      })
+
+pub returned-one : ReturnedOne
+returned-one file room result after p = subst (λ r. Demand1 file room r after) (sym (p .result-is)) (subst (Demand1 file room (listOf file room .result)) (sym (p .after-is)) (demand1 file room))
+
+pub returned-two : ReturnedTwo
+returned-two file room result after p n =
+    subst (λ r. Written file r after) (sym (p .result-is)) (subst (Written file (listOf file room .result)) (sym (p .after-is)) (listed file room (ap (λ r. r .number) (sym (p .result-is)) ∙ n)))
+
+-- ---- the program's output
+pub outputs : Outputs
+outputs file = record {
+  good = λ l. unfold outputOf in not-refused file refusedLine (listText file) (is-good file l);
+  refused = λ n. unfold outputOf in file-first (List ℕ) file refusedLine (listText file) (λ z. n (has-layout file z));
+}
