@@ -277,7 +277,7 @@ fn byte_at(bytes: &[u8], at: usize) -> u8
 }
 
 // The number at a place, bytes beyond the end counting as 0.
-fn u32_at(bytes: &[u8], at: usize) -> u32
+pub fn u32_at(bytes: &[u8], at: usize) -> u32
     ensures { λ r. ⌜ r ≡ u32At (now (bytes .entry)) at ⌝ }
 {
     let n = bytes.len();
@@ -293,6 +293,45 @@ fn u32_at(bytes: &[u8], at: usize) -> u32
         );
     }
     u32_in(bytes, at)
+}
+
+// The two bytes at a place as a number, likewise.
+fn u16_at(bytes: &[u8], at: usize) -> u32
+    requires { ⌜ at < length (now bytes) + 16 ⌝ }
+    ensures { λ r. ⌜ (r ≡ u16At (now (bytes .entry)) at) × (r < 65536) ⌝ }
+{
+    two(byte_at(bytes, at), byte_at(bytes, at + 1))
+}
+
+// The twelve bytes at a place as a table entry, bytes beyond the end counting as 0.
+pub fn entry_at(bytes: &[u8], at: usize) -> layout::Entry
+    ensures { λ r. ⌜ (r ≡ entryFrom (now (bytes .entry)) at) × (r .count < 65536) ⌝ }
+{
+    let n = bytes.len();
+    if n <= at {
+        return layout::Entry {
+            id: 0,
+            first: 0,
+            count: 0,
+            set: 0,
+            last: 0,
+        };
+    }
+    if n - at < 12 {
+        let id = u32_at(bytes, at);
+        let first = u32_at(bytes, at + 4);
+        let count = u16_at(bytes, at + 8);
+        let set = wide(byte_at(bytes, at + 10));
+        let last = wide(byte_at(bytes, at + 11));
+        return layout::Entry {
+            id,
+            first,
+            count,
+            set,
+            last,
+        };
+    }
+    entry_in(bytes, at)
 }
 
 // The coordinate at a place of a file or of a part, as it is stored; bytes beyond the end count as 0.
