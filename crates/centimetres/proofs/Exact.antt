@@ -4,16 +4,15 @@ use mathlib.Core.Path.{_≡_, refl, sym, ap, ap₂, subst, _∙_}
 use mathlib.Core.Bool.{Bool, true, false, not, _&&_, _||_, cond, Bool·beq}
 use native.Mathlib.Omega.{arith}
 use native.Mathlib.Nat.{add-zero, sub-zero, zero-mul, mul-zero, mul-one, mul-comm, mul-assoc, mul-pos, mul-sub, add-mul, mul-mul-mul-comm, mul-right-comm, zero-lt-suc, le-of-lt, lt-of-le-of-lt, lt-of-lt-of-le, le-of-eq, le-trans, mul-le-mul-right, mul-lt-mul-of-pos-right}
-use lib.Dec.{ltb, leb, eqb, leb·zero, leb·suc-zero, leb·suc-suc, eqb·zero-suc, eqb·suc-zero}
+use lib.Dec.{ltb, leb·suc-zero}
 use lib.IntN.{ℤ, pos, negsuc, negℤ, natAbs, _+ℤ_, _-ℤ_, _*ℤ_, negℤ-+ℤ, +ℤ-comm}
-use lib.Ieee.{Float, nan, inf, fin, Format, prec, up, down, unlike, round, sum, add, sub, mul, neg, lt, le, eq, ofInt, ofBits}
+use lib.Ieee.{Float, nan, inf, fin, Format, prec, up, down, unlike, round, sum, add, sub, mul, neg, ofInt}
 use lib.Ieee.Fits.{down-pos}
 use lib.Ieee.Exact.{HasValue}
 use lib.Ieee.Scale.{round-same}
 use lib.Ieee.Back.{round-whole}
 use borrow.Author.Tests.{ltb-true, ltb-false, lt-ltb, le-ltb}
-use Rattle.floats.specs.Finite.{nought}
-use Rattle.floats.specs.Whole.{isNotNegative, isNegative, isNought}
+use Rattle.floats.specs.Finite.{finite}
 use Rattle.centimetres.proofs.Below.{Below, OneOrMore}
 
 -- ---- a sign and a size
@@ -162,6 +161,14 @@ module _ (f : Format) {x y : Float} {a b : ℤ} (h : Exact x a) (k : Exact y b) 
 pub sub-exact : (f : Format) {x y : Float} {a b : ℤ} → Exact x a → Exact y b → natAbs (a -ℤ b) ≤ 2 ^ prec f → Exact (sub f x y) (a -ℤ b)
 unfolding sub
 sub-exact f h k l = add-exact f h (neg-exact k) l
+
+value-finite : (x : Float) (s : Bool) (n : ℕ) → HasValue x s n 1 → finite x ≡ true
+value-finite nan s n v = absurd v
+value-finite (inf t) s n v = absurd v
+value-finite (fin t m e) s n v = refl
+
+pub exact-finite : {x : Float} {z : ℤ} → Exact x z → finite x ≡ true
+exact-finite {x} h = value-finite x (h .sign) (h .size) (h .value)
 
 -- ---- in size
 exact-size : {x : Float} {z : ℤ} (h : Exact x z) → h .size ≡ natAbs z

@@ -1,2 +1,4 @@
 pub mod Below
 pub mod Exact
+pub mod Zero
+pub mod Ways
