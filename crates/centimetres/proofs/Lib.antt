@@ -2,3 +2,5 @@ pub mod Below
 pub mod Exact
 pub mod Zero
 pub mod Ways
+pub mod Parameters
+pub mod Crossed
