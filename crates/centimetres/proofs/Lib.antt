@@ -4,3 +4,4 @@ pub mod Zero
 pub mod Ways
 pub mod Parameters
 pub mod Crossed
+pub mod Pair
