@@ -5,3 +5,4 @@ pub mod Ways
 pub mod Parameters
 pub mod Crossed
 pub mod Pair
+pub mod Positions

@@ -36,7 +36,7 @@ ends (suc (suc zero)) i = below-three (2 ∷ 0 ∷ []) (unfold all in tt) i
 ends (suc (suc (suc e))) i = lit< tt
 
 -- a number as f64
-abbrev InRange : List ℤ → Type 0
+abbrev pub InRange : List ℤ → Type 0
 InRange zs = (z : ℤ) → List·Memᴰ z zs → natAbs z ≤ 1000000
 
 number-whole : (zs : List ℤ) → InRange zs → (i : ℕ) → i < length zs → Whole 1000000 (given (getD (map (ofInt binary64) zs) i nan)) (getD zs i (pos 0))
