@@ -6,3 +6,4 @@ pub mod Parameters
 pub mod Crossed
 pub mod Pair
 pub mod Positions
+pub mod Never

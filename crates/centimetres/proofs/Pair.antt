@@ -11,6 +11,7 @@ use lib.IntN.{ℤ, pos, natAbs}
 use lib.Ieee.{Float, nan, binary64, ofInt}
 use lib.Ieee.Fits.{and-l, and-r}
 use Rattle.floats.specs.Lists.{all}
+use Rattle.floats.specs.Finite.{finite}
 use Rattle.floats.specs.Numbers.{Point, crossFrom}
 use Rattle.floats.specs.Way.{given, f64}
 use Rattle.floats.specs.Whole.{whole, isNotNegative}
@@ -18,7 +19,7 @@ use Rattle.lines.specs.Lines.{sign, endTable, endOf, start, finish, lowerEnd, h
 use Rattle.lines.specs.Parameters.{Parameters, parameter, parameters, signs}
 use Rattle.order.specs.PairTest.{signsOfU}
 use Rattle.triangles.specs.Pair.{vertexOf, dOfV, eOfU, parametersOf, paramsOf, carriedBy, vertexSigns, signsBy, pairDOf}
-use Rattle.centimetres.proofs.Exact.{int-exact}
+use Rattle.centimetres.proofs.Exact.{Exact, int-exact, exact-finite}
 use Rattle.centimetres.proofs.Ways.{Whole, Under, whole-given, whole-under, under-minus, under-times}
 use Rattle.centimetres.proofs.Parameters.{WholePoint, WholeParameters, cross-whole, parameters-whole, carried-whole, parameter-whole, unseen, sign-whole}
 
@@ -35,18 +36,27 @@ ends (suc zero) i = below-three (1 ∷ 2 ∷ []) (unfold all in tt) i
 ends (suc (suc zero)) i = below-three (2 ∷ 0 ∷ []) (unfold all in tt) i
 ends (suc (suc (suc e))) i = lit< tt
 
--- a number as f64
+-- ---- numbers in range, and as f64
 abbrev pub InRange : List ℤ → Type 0
 InRange zs = (z : ℤ) → List·Memᴰ z zs → natAbs z ≤ 1000000
 
+number-exact : (z : ℤ) → natAbs z ≤ 1000000 → Exact (ofInt binary64 z) z
+number-exact z m = int-exact binary64 z (le-trans m (lit≤ tt))
+
 number-whole : (zs : List ℤ) → InRange zs → (i : ℕ) → i < length zs → Whole 1000000 (given (getD (map (ofInt binary64) zs) i nan)) (getD zs i (pos 0))
 number-whole [] h i l = absurd (omega arith)
-number-whole (z ∷ zs) h zero l = let m = h z (here refl) in whole-given (int-exact binary64 z (le-trans m (lit≤ tt))) m
+number-whole (z ∷ zs) h zero l = let m = h z (here refl) in whole-given (number-exact z m) m
 number-whole (z ∷ zs) h (suc i) l = number-whole zs (λ y m. h y (there m)) i (omega arith)
 
--- ---- the same in whole numbers
 abbrev pub values : List ℤ → List Float
 values zs = map (ofInt binary64) zs
+
+pub values-finite : (zs : List ℤ) → InRange zs → all finite (values zs) ≡ true
+unfolding all
+values-finite [] h = refl
+values-finite (z ∷ zs) h = rw (exact-finite (number-exact z (h z (here refl))), values-finite zs (λ y m. h y (there m))) refl
+
+-- ---- the same in whole numbers
 
 abbrev pub pointAt : List ℤ → ℕ → Point ℤ
 pointAt zs i = record { x = getD zs (2 * i) (pos 0); y = getD zs (2 * i + 1) (pos 0) }
