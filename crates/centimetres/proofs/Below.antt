@@ -3,8 +3,8 @@ use Prim.Native.Nat.{ℕ, suc, _+_, _-_, _*_, _/_, _%_, _^_, _<_, _≤_, compare
 use mathlib.Core.Path.{_≡_, refl, sym, ap, subst, _∙_}
 use mathlib.Core.Bool.{Bool, true, false, _&&_, cond, Bool·beq}
 use native.Mathlib.Omega.{arith}
-use native.Mathlib.Nat.{mul-assoc, mul-comm, mul-right-comm, mul-mul-mul-comm, mul-pos, le-trans, le-of-eq, le-of-lt, lt-of-le-of-lt, lt-of-lt-of-le, mul-le-mul-left, mul-le-mul-right, mul-lt-mul-of-pos-right, mul-lt-mul-of-pos-left, lt-of-mul-lt-mul-right, pow-suc, sub-le, div-lt-iff-lt-mul, div-div-eq-div-mul, div-mul-le-self}
-use lib.Dec.{ltb, eqb}
+use native.Mathlib.Nat.{mul-assoc, mul-comm, mul-right-comm, mul-mul-mul-comm, mul-pos, le-trans, le-of-eq, le-of-lt, lt-of-le-of-lt, lt-of-lt-of-le, mul-le-mul-left, mul-le-mul-right, mul-lt-mul-of-pos-right, lt-of-mul-lt-mul-right, pow-suc, sub-le, div-lt-iff-lt-mul, div-div-eq-div-mul, div-mul-le-self}
+use lib.Dec.{ltb}
 use lib.Pow.{pow-pos, pow-mono, pow-add}
 use lib.Ieee.{Float, nan, inf, fin, Format, prec, emax, low, up, down, unlike, size, nearest, units, round, sum, add, sub, mul, div, neg}
 use lib.Ieee.Digits.{size-le}

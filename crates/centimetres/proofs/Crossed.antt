@@ -1,8 +1,7 @@
 -- A crossing in a ring lies on an edge of U whose ends have different signs on its line. One computed test over all walks. Assumes nothing.
 use Prim.Native.Nat.{ℕ}
-use mathlib.Core.Path.{_≡_}
 use mathlib.Core.Bool.{Bool, true}
-use mathlib.Core.List.{List, [], _∷_, List·Memᴰ}
+use mathlib.Core.List.{List, List·Memᴰ}
 use lib.Dec.{T}
 use lib.Ieee.{Float}
 use Rattle.floats.specs.Lists.{all}

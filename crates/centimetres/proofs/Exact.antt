@@ -1,9 +1,9 @@
 -- A float that is a whole number, whatever the sign of a zero: as long as they stay within the format's digits, sums, differences and products of such are the exact ones, and comparing one with zero is comparing the whole number. Assumes nothing.
 use Prim.Native.Nat.{ℕ, zero, suc, _+_, _-_, _*_, _^_, _<_, _≤_}
 use mathlib.Core.Path.{_≡_, refl, sym, ap, ap₂, subst, _∙_}
-use mathlib.Core.Bool.{Bool, true, false, not, _&&_, _||_, cond, Bool·beq}
+use mathlib.Core.Bool.{Bool, true, false, not, _&&_, cond}
 use native.Mathlib.Omega.{arith}
-use native.Mathlib.Nat.{add-zero, sub-zero, zero-mul, mul-zero, mul-one, mul-comm, mul-assoc, mul-pos, mul-sub, add-mul, mul-mul-mul-comm, mul-right-comm, zero-lt-suc, le-of-lt, lt-of-le-of-lt, lt-of-lt-of-le, le-of-eq, le-trans, mul-le-mul-right, mul-lt-mul-of-pos-right}
+use native.Mathlib.Nat.{add-zero, sub-zero, zero-mul, mul-zero, mul-one, mul-comm, mul-assoc, mul-pos, mul-sub, add-mul, mul-mul-mul-comm, zero-lt-suc, le-of-lt, lt-of-le-of-lt, lt-of-lt-of-le, le-of-eq, le-trans, mul-le-mul-right, mul-lt-mul-of-pos-right}
 use lib.Dec.{ltb, leb·suc-zero}
 use lib.IntN.{ℤ, pos, negsuc, negℤ, natAbs, _+ℤ_, _-ℤ_, _*ℤ_, negℤ-+ℤ, +ℤ-comm}
 use lib.Ieee.{Float, nan, inf, fin, Format, prec, up, down, unlike, round, sum, add, sub, mul, neg, ofInt}

@@ -1,34 +1,33 @@
 -- A pair of triangles in whole centimetres, each with an area, is never refused: no row of the table applies. So its decision is no refusal. Assumes nothing.
 use Prim.Native.Nat.{ℕ, zero, suc, _<_, _≤_}
-use mathlib.Core.Path.{_≡_, refl, sym, ap, subst, _∙_}
+use mathlib.Core.Path.{_≡_, refl, sym, ap, _∙_}
 use mathlib.Core.Logic.{_⊎_, inl, inr}
 use mathlib.Core.Bool.{Bool, true, false, cond, false≢true}
-use mathlib.Core.List.{List, [], _∷_, _++_, map, List·Memᴰ, List·Memᴰ·append-cases}
+use mathlib.Core.List.{List, [], _∷_, _++_, List·Memᴰ, List·Memᴰ·append-cases}
 use native.Mathlib.Omega.{arith}
 use lib.Dec.{eqb, lit≤, lit<}
 use lib.ListN.{length, length-map}
 use lib.IntN.{ℤ, pos, negsuc, natAbs}
 use lib.Ieee.{Float, binary64, ofInt}
 use Rattle.floats.specs.Lists.{all}
-use Rattle.floats.specs.Finite.{finite, nought}
+use Rattle.floats.specs.Finite.{finite}
 use Rattle.floats.specs.Whole.{isNought}
 use Rattle.floats.specs.Way.{Way, f64}
 use Rattle.floats.proofs.Lists.{fails-all, all-append}
 use Rattle.lines.specs.Parameters.{Parameters}
-use Rattle.layout.specs.Parts.{Triangle, numbersOf}
+use Rattle.layout.specs.Parts.{numbersOf}
 use Rattle.layout.specs.Rules.{twiceArea}
-use Rattle.triangles.specs.Pair.{dOfV, eOfU, parametersOf, testsOf, pairDOf}
-use Rattle.triangles.specs.Refusals.{Row, lengths, coordinates, wayToD, dZero, wayToE, eZero, wayToParameter, wayToPairTest, wayToPosition, wayToArea, parametersWay, testsWay, wayOf}
-use Rattle.triangles.specs.Rows.{NotFinite, Applies, NoRow}
+use Rattle.triangles.specs.Pair.{parametersOf, testsOf, pairDOf}
+use Rattle.triangles.specs.Refusals.{lengths, coordinates, wayToD, dZero, wayToE, eZero, wayToParameter, wayToPairTest, wayToPosition, wayToArea, parametersWay, testsWay, wayOf}
+use Rattle.triangles.specs.Rows.{NotFinite, NoRow}
 use Rattle.triangles.specs.declared.Answer.{Answer}
 use Rattle.triangles.specs.declared.Decision.{Decision}
 use Rattle.triangles.specs.declared.Decision.the-variants.{Refused, Ring, Apart}
 use Rattle.triangles.specs.Decision.{enough, answerTo, decided, decisionOf}
 use Rattle.triangles.proofs.Rows.{by-none, number-is}
-use Rattle.centimetres.specs.Centimetres.{Centimetres, valuesOf, NeverRefused, AlwaysDecided}
-use Rattle.centimetres.proofs.Exact.{exact-finite}
+use Rattle.centimetres.specs.Centimetres.{valuesOf, NeverRefused, AlwaysDecided}
 use Rattle.centimetres.proofs.Zero.{eq-exact}
-use Rattle.centimetres.proofs.Ways.{Whole, Under}
+use Rattle.centimetres.proofs.Ways.{Whole}
 use Rattle.centimetres.proofs.Parameters.{WholeParameters}
 use Rattle.centimetres.proofs.Pair.{InRange, values, crossAt, d-whole, e-whole, parameters-at, pair-test-under, values-finite}
 use Rattle.centimetres.proofs.Positions.{ring-positions-fine, ring-area-fine}

@@ -1,7 +1,7 @@
 -- Of twelve whole centimetres in range: d, e and the parameters are exact, the signs are those of the whole numbers, and the pair tests are small. Assumes nothing.
 use Prim.Native.Nat.{ℕ, zero, suc, _+_, _*_, _<_, _≤_}
-use mathlib.Core.Path.{_≡_, refl, sym, ap, subst, _∙_}
-use mathlib.Core.Bool.{Bool, true, _&&_}
+use mathlib.Core.Path.{_≡_, refl, ap, _∙_}
+use mathlib.Core.Bool.{true}
 use mathlib.Core.List.{List, [], _∷_, map, List·Memᴰ, List·Memᴰ·head as here, List·Memᴰ·tail as there}
 use native.Mathlib.Omega.{arith}
 use native.Mathlib.Nat.{le-trans}
@@ -15,7 +15,7 @@ use Rattle.floats.specs.Finite.{finite}
 use Rattle.floats.specs.Numbers.{Point, crossFrom}
 use Rattle.floats.specs.Way.{given, f64}
 use Rattle.floats.specs.Whole.{whole, isNotNegative}
-use Rattle.lines.specs.Lines.{sign, endTable, endOf, start, finish, lowerEnd, higherEnd}
+use Rattle.lines.specs.Lines.{sign, endOf, lowerEnd, higherEnd}
 use Rattle.lines.specs.Parameters.{Parameters, parameter, parameters, signs}
 use Rattle.order.specs.PairTest.{signsOfU}
 use Rattle.triangles.specs.Pair.{vertexOf, dOfV, eOfU, parametersOf, paramsOf, carriedBy, vertexSigns, signsBy, pairDOf}

@@ -1,7 +1,7 @@
 -- Values on the way that are whole numbers of some size at most, and values below a power of two, through sums, differences, products and quotients; every value on the way to them is finite. Assumes nothing.
 use Prim.Native.Nat.{ℕ, suc, _+_, _*_, _^_, _<_, _≤_}
 use mathlib.Core.Path.{_≡_, refl, sym, subst, _∙_}
-use mathlib.Core.Bool.{Bool, true, false, _&&_, cond}
+use mathlib.Core.Bool.{Bool, true, false, cond}
 use mathlib.Core.List.{_++_}
 use native.Mathlib.Nat.{le-trans, lt-of-le-of-lt}
 use lib.IntN.{ℤ, pos, negℤ, natAbs, _-ℤ_, _*ℤ_}

@@ -1,12 +1,12 @@
 -- A float that is a whole number is at least zero, below zero or zero exactly if the whole number is. Assumes nothing.
-use Prim.Native.Nat.{ℕ, zero, suc, _+_, _*_, _<_}
-use mathlib.Core.Path.{_≡_, refl, sym, ap, ap₂, _∙_}
-use mathlib.Core.Bool.{Bool, true, false, _||_, and-self}
+use Prim.Native.Nat.{ℕ, zero, suc, _*_, _<_}
+use mathlib.Core.Path.{_≡_, refl, ap, _∙_}
+use mathlib.Core.Bool.{Bool, true, false, _||_}
 use native.Mathlib.Omega.{arith}
 use native.Mathlib.Nat.{add-zero, zero-mul, mul-pos, zero-lt-suc}
-use lib.Dec.{ltb, leb, eqb, leb·zero, leb·suc-zero, leb·suc-suc, eqb·zero-suc, eqb·suc-zero}
+use lib.Dec.{leb·zero, leb·suc-zero, leb·suc-suc, eqb·zero-suc, eqb·suc-zero}
 use lib.IntN.{ℤ, pos, negsuc}
-use lib.Ieee.{Float, nan, inf, fin, up, down, below, level, lt, le, eq, ofBits}
+use lib.Ieee.{Float, nan, inf, fin, down, below, level, lt, le, eq, ofBits}
 use lib.Ieee.Fits.{down-pos}
 use lib.Ieee.Exact.{HasValue}
 use Rattle.floats.specs.Finite.{nought}
