@@ -3,7 +3,9 @@ pub mod Exact
 pub mod Zero
 pub mod Ways
 pub mod Parameters
-pub mod Crossed
 pub mod Pair
+pub mod Crossed
 pub mod Positions
+pub mod Area
 pub mod Never
+pub mod Which

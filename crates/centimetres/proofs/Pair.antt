@@ -2,7 +2,7 @@
 use Prim.Native.Nat.{ℕ, zero, suc, _+_, _*_, _<_, _≤_}
 use mathlib.Core.Path.{_≡_, refl, ap, _∙_}
 use mathlib.Core.Bool.{true}
-use mathlib.Core.List.{List, [], _∷_, map, List·Memᴰ, List·Memᴰ·head as here, List·Memᴰ·tail as there}
+use mathlib.Core.List.{List, [], _∷_, map, List·Memᴰ·head as here, List·Memᴰ·tail as there}
 use native.Mathlib.Omega.{arith}
 use native.Mathlib.Nat.{le-trans}
 use lib.Dec.{T, ltb, ltb→lt, lit≤, lit<}
@@ -19,6 +19,7 @@ use Rattle.lines.specs.Lines.{sign, endOf, lowerEnd, higherEnd}
 use Rattle.lines.specs.Parameters.{Parameters, parameter, parameters, signs}
 use Rattle.order.specs.PairTest.{signsOfU}
 use Rattle.triangles.specs.Pair.{vertexOf, dOfV, eOfU, parametersOf, paramsOf, carriedBy, vertexSigns, signsBy, pairDOf}
+use Rattle.centimetres.specs.Centimetres.{InRange}
 use Rattle.centimetres.proofs.Exact.{Exact, int-exact, exact-finite}
 use Rattle.centimetres.proofs.Ways.{Whole, Under, whole-given, whole-under, under-minus, under-times}
 use Rattle.centimetres.proofs.Parameters.{WholePoint, WholeParameters, cross-whole, parameters-whole, carried-whole, parameter-whole, unseen, sign-whole}
@@ -36,10 +37,7 @@ ends (suc zero) i = below-three (1 ∷ 2 ∷ []) (unfold all in tt) i
 ends (suc (suc zero)) i = below-three (2 ∷ 0 ∷ []) (unfold all in tt) i
 ends (suc (suc (suc e))) i = lit< tt
 
--- ---- numbers in range, and as f64
-abbrev pub InRange : List ℤ → Type 0
-InRange zs = (z : ℤ) → List·Memᴰ z zs → natAbs z ≤ 1000000
-
+-- ---- numbers in range, as f64
 number-exact : (z : ℤ) → natAbs z ≤ 1000000 → Exact (ofInt binary64 z) z
 number-exact z m = int-exact binary64 z (le-trans m (lit≤ tt))
 
@@ -67,9 +65,14 @@ crossAt zs i j k = crossFrom whole (pointAt zs i) (pointAt zs j) (pointAt zs k)
 abbrev pub numbersAt : List ℤ → ℕ → Parameters ℤ
 numbersAt zs i = parameters whole (pointAt zs 3) (pointAt zs 4) (pointAt zs 5) (pointAt zs i)
 
-module _ (zs : List ℤ) (twelve : length zs ≡ 12) (inRange : InRange zs) where
+-- twelve numbers in range
+pub record Twelve (zs : List ℤ) : Type 0 where
+  pub count : length zs ≡ 12
+  pub inRange : InRange zs
+
+module _ {zs : List ℤ} (h : Twelve zs) where
   pub point-whole : (i : ℕ) → i < 6 → WholePoint (vertexOf (values zs) i) (pointAt zs i)
-  point-whole i l = record { x = number-whole zs inRange (2 * i) (omega arith); y = number-whole zs inRange (2 * i + 1) (omega arith) }
+  point-whole i l = record { x = number-whole zs (h .inRange) (2 * i) (omega arith); y = number-whole zs (h .inRange) (2 * i + 1) (omega arith) }
 
   pub d-whole : Whole 8000000000000 (dOfV (values zs)) (crossAt zs 3 4 5)
   unfolding dOfV

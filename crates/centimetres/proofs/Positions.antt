@@ -1,36 +1,35 @@
--- The ring of twelve whole centimetres in range lies at finite positions and has a finite area: a crossing divides by a whole number that is not zero, since its line's parameter has different signs at the two ends of its edge. Assumes nothing.
-use Prim.Native.Nat.{ℕ, zero, suc, _+_, _-_, _*_, _<_, _≤_}
+-- The ring of twelve whole centimetres in range lies at finite positions: where a crossing divides, it divides by a whole number that is not zero, since its line's parameter has different signs
+-- at the two ends of its edge. Assumes nothing.
+use Prim.Native.Nat.{ℕ, zero, suc, _+_, _<_}
 use mathlib.Core.Path.{_≡_, refl, sym, ap, ap₂, subst, _∙_}
-use mathlib.Core.Logic.{inl, inr}
 use mathlib.Core.Bool.{Bool, true, false, cond}
 use mathlib.Core.List.{List, [], _∷_, _++_, map, List·Memᴰ, List·Memᴰ·head as here, List·Memᴰ·tail as there}
 use native.Mathlib.Omega.{arith}
 use lib.Dec.{T, ltb, ltb→lt, lit≤, lit<}
-use lib.ListN.{length, length-map}
+use lib.ListN.{length}
 use lib.IntN.{ℤ, pos, _-ℤ_, _+ℤ_, -ℤ-+ℤ-cancel, +ℤ-idl}
-use lib.Ieee.{Float, ofBits}
+use lib.Ieee.{Float}
 use lib.Ieee.Fits.{and-r}
 use Rattle.floats.specs.Lists.{all, differ}
-use Rattle.floats.specs.Finite.{finite, nought}
-use Rattle.floats.specs.Numbers.{Point, crossFrom}
-use Rattle.floats.specs.Way.{Way, given, _⊕_, _⊖_, _⊗_, fine, f64}
+use Rattle.floats.specs.Finite.{finite}
+use Rattle.floats.specs.Numbers.{Point}
+use Rattle.floats.specs.Way.{Way, _⊕_, _⊖_, _⊗_}
 use Rattle.floats.specs.Whole.{isNotNegative}
 use Rattle.floats.proofs.Lists.{all-at, all-append}
 use Rattle.lines.specs.Lines.{start, finish}
 use Rattle.lines.specs.Parameters.{parameter}
 use Rattle.ring.specs.Places.{Place, vertex, corner, crossing, fifteen}
-use Rattle.ring.specs.Demand.{NoneOrThreeToSix}
 use Rattle.triangles.specs.Pair.{signsBy, ringOf}
-use Rattle.triangles.specs.Positions.{crossingAt, positionOf, ringPositions, cornerAt, sumTo, half, areaOf}
+use Rattle.triangles.specs.Positions.{crossingAt, positionOf, ringPositions, cornerAt}
 use Rattle.triangles.specs.Refusals.{positionsWay}
 use Rattle.triangles.proofs.Demand.{inRange as hasNumbers, fifteen-in-range, sound}
-use Rattle.centimetres.proofs.Ways.{Under, Whole, under-plus, under-minus, under-times, under-over, under-turned, under-more, under-given, whole-minus, whole-under}
+use Rattle.centimetres.proofs.Ways.{Under, Whole, under-plus, under-times, under-over, under-more, under-given, whole-minus, whole-under}
 use Rattle.centimetres.proofs.Parameters.{WholePoint}
 use Rattle.centimetres.proofs.Crossed.{crossed}
-use Rattle.centimetres.proofs.Pair.{InRange, ends, values, numbersAt, point-whole, parameter-at, sign-at}
+use Rattle.centimetres.proofs.Pair.{Twelve, ends, values, numbersAt, point-whole, parameter-at, sign-at}
 
 -- a point below 2 ^ 70
-record Near (c : Point Way) : Type 0 where
+pub record Near (c : Point Way) : Type 0 where
   pub x : Under 70 (c .x)
   pub y : Under 70 (c .y)
 
@@ -55,21 +54,21 @@ other-way true false t = tt
 other-way false true t = tt
 other-way false false t = t
 
-module _ (zs : List ℤ) (twelve : length zs ≡ 12) (inRange : InRange zs) where
+module _ {zs : List ℤ} (h : Twelve zs) where
   crossing-near : (a i j : ℕ) → a < 3 → i < 3 → j < 3 → T (differ (signsBy (values zs) i a) (signsBy (values zs) j a)) → Near (crossingAt (values zs) a i j)
   unfolding crossingAt
   crossing-near a i j A I J t =
-      let n = apart (parameter (numbersAt zs i) a) (parameter (numbersAt zs j) a) (subst T (ap₂ differ (sign-at zs twelve inRange i a I A) (sign-at zs twelve inRange j a J A)) t) in
-      let p = parameter-at zs twelve inRange i a I in
-      let f = under-over (whole-under 45 p (lit< tt)) (whole-minus p (parameter-at zs twelve inRange j a J) (lit≤ tt)) n (lit≤ tt) in
-      let P = point-whole zs twelve inRange i (omega arith) in
-      let Q = point-whole zs twelve inRange j (omega arith) in
+      let n = apart (parameter (numbersAt zs i) a) (parameter (numbersAt zs j) a) (subst T (ap₂ differ (sign-at h i a I A) (sign-at h j a J A)) t) in
+      let p = parameter-at h i a I in
+      let f = under-over (whole-under 45 p (lit< tt)) (whole-minus p (parameter-at h j a J) (lit≤ tt)) n (lit≤ tt) in
+      let P = point-whole h i (omega arith) in
+      let Q = point-whole h j (omega arith) in
       record { x = between-under f (P .x) (Q .x); y = between-under f (P .y) (Q .y) }
 
   place-near : (p : Place) → T (hasNumbers p) → List·Memᴰ p (ringOf (values zs)) → Near (positionOf (values zs) p)
   unfolding positionOf hasNumbers
-  place-near (vertex i) r m = let h : i < 3 = ltb→lt i 3 r in point-near (point-whole zs twelve inRange i (omega arith))
-  place-near (corner k) r m = let h : k < 3 = ltb→lt k 3 r in point-near (point-whole zs twelve inRange (3 + k) (omega arith))
+  place-near (vertex i) r m = let b : i < 3 = ltb→lt i 3 r in point-near (point-whole h i (omega arith))
+  place-near (corner k) r m = let b : k < 3 = ltb→lt k 3 r in point-near (point-whole h (3 + k) (omega arith))
   place-near (crossing e a) r m =
       let A = ltb→lt a 3 (and-r (ltb e 3) (ltb a 3) r) in
       go (signsBy (values zs) (start e) a) (crossing-near a (start e) (finish e) A (ends e 0) (ends e 1) (crossed (values zs) e a m))
@@ -79,7 +78,7 @@ module _ (zs : List ℤ) (twelve : length zs ≡ 12) (inRange : InRange zs) wher
       go true h k = h
       go false h k = k
 
-  position-near : (p : Place) → List·Memᴰ p (ringOf (values zs)) → Near (positionOf (values zs) p)
+  pub position-near : (p : Place) → List·Memᴰ p (ringOf (values zs)) → Near (positionOf (values zs) p)
   unfolding ringOf
   position-near p m = place-near p (all-at hasNumbers fifteen fifteen-in-range (sound (values zs) .holds .nothingElse p m)) m
 
@@ -94,64 +93,12 @@ module _ (l : List Float) where
       all-append finite (c .x .way ++ c .y .way) (positionsWay (map (positionOf l) ps))
       ∙ rw (all-append finite (c .x .way) (c .y .way), n .x .isFine, n .y .isFine, positions-fine ps (λ q m. h q (there m))) refl
 
-  corner-near : (ps : List Place) → ((p : Place) → List·Memᴰ p ps → Near (positionOf l p)) → (k : ℕ) → k < length ps → Near (cornerAt (map (positionOf l) ps) k)
+  pub corner-near : (ps : List Place) → ((p : Place) → List·Memᴰ p ps → Near (positionOf l p)) → (k : ℕ) → k < length ps → Near (cornerAt (map (positionOf l) ps) k)
   corner-near [] h k b = absurd (omega arith)
   corner-near (p ∷ ps) h zero b = let n = h p (here refl) in record { x = under-given (n .x .below); y = under-given (n .y .below) }
   corner-near (p ∷ ps) h (suc k) b = corner-near ps (λ q m. h q (there m)) k (omega arith)
 
--- ---- the area
-cross-under : {a b c : Point Way} → Near a → Near b → Near c → Under 147 (crossFrom f64 a b c)
-cross-under a b c =
-    under-minus
-    (under-times (under-minus (b .x) (a .x) (lit≤ tt)) (under-minus (c .y) (a .y) (lit≤ tt)) (lit≤ tt))
-    (under-times (under-minus (b .y) (a .y) (lit≤ tt)) (under-minus (c .x) (a .x) (lit≤ tt)) (lit≤ tt))
-    (lit≤ tt)
-
-nought-under : Under 147 (given nought)
-unfolding ofBits
-nought-under = under-given (lit< tt)
-
-half-under : Under 1 (given half)
-unfolding ofBits
-half-under = under-given (lit< tt)
-
--- m crosses want m + 2 corners
-sum-under : (cs : List (Point Way)) (m : ℕ) → ((k : ℕ) → k < m + 2 → 0 < m → Near (cornerAt cs k)) → m ≤ 4 → Under (147 + 2 * m) (sumTo cs m)
-unfolding sumTo
-sum-under cs zero h l = nought-under
-sum-under cs (suc m) h l =
-    let some : 0 < suc m = omega arith in
-    subst (λ n. Under n (sumTo cs m ⊕ crossFrom f64 (cornerAt cs 0) (cornerAt cs (m + 1)) (cornerAt cs (m + 2)))) (next m)
-    (under-plus (sum-under cs m (λ k p q. h k (omega arith) some) (omega arith))
-    (under-more (cross-under (h 0 (omega arith) some) (h (m + 1) (omega arith) some) (h (m + 2) (omega arith) some)) (omega arith)) (omega arith))
-  where
-    next : (m : ℕ) → suc (suc (147 + 2 * m)) ≡ 147 + 2 * suc m
-    next m = omega arith
-
-area-fine : (cs : List (Point Way)) → ((k : ℕ) → k < length cs → Near (cornerAt cs k)) → length cs ≤ 6 → fine (areaOf cs) ≡ true
-unfolding areaOf all
-area-fine [] h l = refl
-area-fine (c ∷ cs) h l =
-    let n = length (c ∷ cs) - 2 in
-    under-times half-under (under-turned (f64 .isBelowZero (sumTo (c ∷ cs) n)) (sum-under (c ∷ cs) n (λ k p q. h k (omega arith)) (omega arith))) (omega arith) .isFine
-
 -- ---- of the ring
-module _ (zs : List ℤ) (twelve : length zs ≡ 12) (inRange : InRange zs) where
-  at-most-six : length (ringOf (values zs)) ≤ 6
-  unfolding ringOf
-  at-most-six = go (sound (values zs) .size)
-    where
-      go : {n : ℕ} → NoneOrThreeToSix n → n ≤ 6
-      go (inl e) = omega arith
-      go (inr h) = h .1
-
-  pub ring-positions-fine : all finite (positionsWay (ringPositions (values zs))) ≡ true
-  unfolding ringPositions
-  ring-positions-fine = positions-fine (values zs) (ringOf (values zs)) (position-near zs twelve inRange)
-
-  pub ring-area-fine : fine (areaOf (ringPositions (values zs))) ≡ true
-  unfolding ringPositions
-  ring-area-fine =
-      let e = length-map (ringOf (values zs)) (positionOf (values zs)) in
-      let six = at-most-six in
-      area-fine (ringPositions (values zs)) (λ k b. corner-near (values zs) (ringOf (values zs)) (position-near zs twelve inRange) k (omega arith)) (omega arith)
+pub ring-positions-fine : {zs : List ℤ} → Twelve zs → all finite (positionsWay (ringPositions (values zs))) ≡ true
+unfolding ringPositions
+ring-positions-fine {zs} h = positions-fine (values zs) (ringOf (values zs)) (position-near h)
