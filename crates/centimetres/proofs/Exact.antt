@@ -1,4 +1,5 @@
--- A float that is a whole number, whatever the sign of a zero: as long as they stay within the format's digits, sums, differences and products of such are the exact ones, and comparing one with zero is comparing the whole number. Assumes nothing.
+-- A float that is a whole number, whatever the sign of a zero. As long as they stay within the format's digits, sums, differences and products of such are the exact ones; and
+-- its size is the whole number's. Assumes nothing.
 use Prim.Native.Nat.{ℕ, zero, suc, _+_, _-_, _*_, _^_, _<_, _≤_}
 use mathlib.Core.Path.{_≡_, refl, sym, ap, ap₂, subst, _∙_}
 use mathlib.Core.Bool.{Bool, true, false, not, _&&_, cond}

@@ -8,4 +8,4 @@ pub mod Crossed
 pub mod Positions
 pub mod Area
 pub mod Never
-pub mod Which
+pub mod Passed

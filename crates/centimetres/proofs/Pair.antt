@@ -38,24 +38,23 @@ ends (suc (suc zero)) i = below-three (2 ∷ 0 ∷ []) (unfold all in tt) i
 ends (suc (suc (suc e))) i = lit< tt
 
 -- ---- numbers in range, as f64
+abbrev pub values : List ℤ → List Float
+values zs = map (ofInt binary64) zs
+
 number-exact : (z : ℤ) → natAbs z ≤ 1000000 → Exact (ofInt binary64 z) z
 number-exact z m = int-exact binary64 z (le-trans m (lit≤ tt))
 
-number-whole : (zs : List ℤ) → InRange zs → (i : ℕ) → i < length zs → Whole 1000000 (given (getD (map (ofInt binary64) zs) i nan)) (getD zs i (pos 0))
+number-whole : (zs : List ℤ) → InRange zs → (i : ℕ) → i < length zs → Whole 1000000 (given (getD (values zs) i nan)) (getD zs i (pos 0))
 number-whole [] h i l = absurd (omega arith)
 number-whole (z ∷ zs) h zero l = let m = h z (here refl) in whole-given (number-exact z m) m
 number-whole (z ∷ zs) h (suc i) l = number-whole zs (λ y m. h y (there m)) i (omega arith)
-
-abbrev pub values : List ℤ → List Float
-values zs = map (ofInt binary64) zs
 
 pub values-finite : (zs : List ℤ) → InRange zs → all finite (values zs) ≡ true
 unfolding all
 values-finite [] h = refl
 values-finite (z ∷ zs) h = rw (exact-finite (number-exact z (h z (here refl))), values-finite zs (λ y m. h y (there m))) refl
 
--- ---- the same in whole numbers
-
+-- ---- points, crosses and parameters in whole numbers
 abbrev pub pointAt : List ℤ → ℕ → Point ℤ
 pointAt zs i = record { x = getD zs (2 * i) (pos 0); y = getD zs (2 * i + 1) (pos 0) }
 
@@ -104,10 +103,14 @@ module _ {zs : List ℤ} (h : Twelve zs) where
   pub sign-at : (i a : ℕ) → i < 3 → a < 3 → signsBy (values zs) i a ≡ isNotNegative (parameter (numbersAt zs i) a)
   sign-at i a l b = ap (λ s. sign s a) (signs-at i l) ∙ sign-whole (carried-at i l) (unseen (pointAt zs 3) (pointAt zs 4) (pointAt zs 5) (pointAt zs i)) a b
 
+  -- parameters are below 2 ^ 45, products of two below 2 ^ 91
   pub pair-test-under : (t : ℕ × (ℕ × ℕ)) → Under 93 (pairDOf (values zs) t)
   unfolding pairDOf
   pair-test-under t =
-      under-minus (under-times (at (lowerEnd (t .0)) (t .1 .0) low) (at (higherEnd (t .0)) (t .1 .1) high) (lit≤ tt)) (under-times (at (higherEnd (t .0)) (t .1 .0) high) (at (lowerEnd (t .0)) (t .1 .1) low) (lit≤ tt)) (lit≤ tt)
+      under-minus
+      (under-times (at (lowerEnd (t .0)) (t .1 .0) low) (at (higherEnd (t .0)) (t .1 .1) high) (lit≤ tt))
+      (under-times (at (higherEnd (t .0)) (t .1 .0) high) (at (lowerEnd (t .0)) (t .1 .1) low) (lit≤ tt))
+      (lit≤ tt)
     where
       at : (i a : ℕ) → i < 3 → Under 45 (parameter (carriedBy (values zs) i) a)
       at i a l = whole-under 45 (parameter-at i a l) (lit< tt)

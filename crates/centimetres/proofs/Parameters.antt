@@ -51,7 +51,8 @@ turned-whole b d x y = record {
   w = whole-minus (whole-minus (whole-turned b d) (whole-turned b x) (lit≤ tt)) (whole-turned b y) (lit≤ tt);
 }
 
-pub parameters-whole : {v0 v1 v2 u : Point Way} {Z0 Z1 Z2 Z : Point ℤ} → WholePoint v0 Z0 → WholePoint v1 Z1 → WholePoint v2 Z2 → WholePoint u Z → WholeParameters (parameters f64 v0 v1 v2 u) (parameters whole Z0 Z1 Z2 Z)
+pub parameters-whole : {v0 v1 v2 u : Point Way} {Z0 Z1 Z2 Z : Point ℤ} → WholePoint v0 Z0 → WholePoint v1 Z1 → WholePoint v2 Z2 → WholePoint u Z
+    → WholeParameters (parameters f64 v0 v1 v2 u) (parameters whole Z0 Z1 Z2 Z)
 parameters-whole {v0} {v1} {v2} {u} {Z0} {Z1} {Z2} {Z} h0 h1 h2 h =
     let d = cross-whole h0 h1 h2 in
     subst (λ b. WholeParameters (turnedBy b (crossFrom f64 v0 v1 v2) (crossFrom f64 v0 u v2) (crossFrom f64 v0 v1 u)) (parameters whole Z0 Z1 Z2 Z))

@@ -23,7 +23,7 @@ use Rattle.triangles.specs.Pair.{signsBy, ringOf}
 use Rattle.triangles.specs.Positions.{crossingAt, positionOf, ringPositions, cornerAt}
 use Rattle.triangles.specs.Refusals.{positionsWay}
 use Rattle.triangles.proofs.Demand.{inRange as hasNumbers, fifteen-in-range, sound}
-use Rattle.centimetres.proofs.Ways.{Under, Whole, under-plus, under-times, under-over, under-more, under-given, whole-minus, whole-under}
+use Rattle.centimetres.proofs.Ways.{Under, Whole, under-plus, under-times, under-divided, under-more, under-given, whole-minus, whole-under}
 use Rattle.centimetres.proofs.Parameters.{WholePoint}
 use Rattle.centimetres.proofs.Crossed.{crossed}
 use Rattle.centimetres.proofs.Pair.{Twelve, ends, values, numbersAt, point-whole, parameter-at, sign-at}
@@ -60,7 +60,7 @@ module _ {zs : List ℤ} (h : Twelve zs) where
   crossing-near a i j A I J t =
       let n = apart (parameter (numbersAt zs i) a) (parameter (numbersAt zs j) a) (subst T (ap₂ differ (sign-at h i a I A) (sign-at h j a J A)) t) in
       let p = parameter-at h i a I in
-      let f = under-over (whole-under 45 p (lit< tt)) (whole-minus p (parameter-at h j a J) (lit≤ tt)) n (lit≤ tt) in
+      let f = under-divided (whole-under 45 p (lit< tt)) (whole-minus p (parameter-at h j a J) (lit≤ tt)) n (lit≤ tt) in
       let P = point-whole h i (omega arith) in
       let Q = point-whole h j (omega arith) in
       record { x = between-under f (P .x) (Q .x); y = between-under f (P .y) (Q .y) }

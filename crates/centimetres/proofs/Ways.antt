@@ -1,4 +1,5 @@
--- Values on the way that are whole numbers of some size at most, and values below a power of two, through sums, differences, products and quotients; every value on the way to them is finite. Assumes nothing.
+-- Values on the way: whole numbers of some size at most, and values below a power of two. What sums, differences, products and quotients make of them, every value on the way being finite.
+-- Assumes nothing.
 use Prim.Native.Nat.{ℕ, suc, _+_, _*_, _^_, _<_, _≤_}
 use mathlib.Core.Path.{_≡_, refl, sym, subst, _∙_}
 use mathlib.Core.Bool.{Bool, true, false, cond}
@@ -85,5 +86,5 @@ pub whole-under : {k : ℕ} {w : Way} {a : ℤ} (j : ℕ) → Whole k w a → k 
 whole-under j h t = record { below = exact-below j (h .exact) (lt-of-le-of-lt (h .small) t); isFine = h .isFine }
 
 -- divided by a whole number that is not zero
-pub under-over : {j k : ℕ} {a b : Way} {z : ℤ} → Under j a → Whole k b z → (z ≡ pos 0 → ⊥) → j ≤ 1023 → Under (suc j) (a ⊘ b)
-under-over {j} {k} {a} {b} h g n l = under-op a b (h .isFine) (g .isFine) (div-below binary64 (a .value) (b .value) j (h .below) (exact-one (g .exact) n) l)
+pub under-divided : {j k : ℕ} {a b : Way} {z : ℤ} → Under j a → Whole k b z → (z ≡ pos 0 → ⊥) → j ≤ 1023 → Under (suc j) (a ⊘ b)
+under-divided {j} {k} {a} {b} h g n l = under-op a b (h .isFine) (g .isFine) (div-below binary64 (a .value) (b .value) j (h .below) (exact-one (g .exact) n) l)

@@ -1,4 +1,4 @@
--- A triangle that passes the rule of one triangle is in range and has an area, and so is each triangle of a good file. Assumes nothing.
+-- A triangle that passes the rule of one triangle, and each triangle of a good file, is in range and has an area. Assumes nothing.
 use Prim.Native.Nat.{ℕ, _<_}
 use mathlib.Core.Path.{_≡_, refl, sym, _∙_}
 use mathlib.Core.Bool.{Bool, true, false, cond, false≢true}
