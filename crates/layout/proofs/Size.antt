@@ -13,7 +13,7 @@ use mir.Syntax.{w32, w64}
 use Rattle.floats.specs.Whole.{isNought}
 use Rattle.layout.specs.Rules.{isFar}
 
-abs-neg : (a : ℤ) → natAbs (negℤ a) ≡ natAbs a
+pub abs-neg : (a : ℤ) → natAbs (negℤ a) ≡ natAbs a
 abs-neg (pos zero) = refl
 abs-neg (pos (suc n)) = refl
 abs-neg (negsuc n) = refl

@@ -92,18 +92,18 @@ pub entry-test : (e : Entry) (end : ℕ) → Tells (isBadEntry e end) (BadEntry 
 unfolding isBadEntry
 entry-test e end = either (same (e .count) 0) (either (less 2 (e .set)) (either (other (e .last) 0) (other (e .first) end)))
 
-range-test : (t : Triangle) → Tells (isOutOfRange t) (OutOfRange t)
+pub range-test : (t : Triangle) → Tells (isOutOfRange t) (OutOfRange t)
 unfolding isOutOfRange
 range-test t =
     let w = some isFar (numbersOf t) in
     ((λ h. let o = w .0 h in (o .0, o .1, ltb-true 1000000 (natAbs (o .0)) (o .2))), (λ o. w .1 (o .0, o .1, lt-ltb 1000000 (natAbs (o .0)) (o .2))))
 
-nought : (z : ℤ) → Tells (isNought z) (z ≡ pos 0)
+pub nought : (z : ℤ) → Tells (isNought z) (z ≡ pos 0)
 nought (pos zero) = ((λ h. refl), (λ h. refl))
 nought (pos (suc n)) = ((λ h. absurd (false≢true h)), (λ h. absurd (false≢true (ap isNought h))))
 nought (negsuc n) = ((λ h. absurd (false≢true h)), (λ h. absurd (false≢true (ap isNought h))))
 
-flat-test : (t : Triangle) → Tells (isFlat t) (Flat t)
+pub flat-test : (t : Triangle) → Tells (isFlat t) (Flat t)
 unfolding isFlat
 flat-test t = nought (twiceArea t)
 

@@ -1,0 +1,11 @@
+pub mod Below
+pub mod Exact
+pub mod Zero
+pub mod Ways
+pub mod Parameters
+pub mod Pair
+pub mod Crossed
+pub mod Positions
+pub mod Area
+pub mod Never
+pub mod Passed
