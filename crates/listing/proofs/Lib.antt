@@ -2,5 +2,6 @@ pub mod Turns
 pub mod Tallied
 pub mod Demand
 pub mod Ids
+pub mod Never
 pub mod Returned
 pub mod Worked
