@@ -5,3 +5,4 @@ pub mod Corner
 pub mod Told
 pub mod Corners
 pub mod Tables
+pub mod Sides

@@ -3,9 +3,12 @@ use Prim.Native.Nat.{ℕ}
 use mathlib.Core.Bool.{Bool, not, _||_, cond}
 use mathlib.Core.List.{List, [], _∷_, _++_}
 use lib.Dec.{eqb}
+use lib.Ieee.{Float, binary64, sub, neg, lt}
 use Rattle.floats.specs.Lists.{any}
-use Rattle.floats.specs.Numbers.{Numbers, Point, crossFrom}
+use Rattle.floats.specs.Finite.{nought}
+use Rattle.floats.specs.Numbers.{Numbers, Point, cross, crossFrom}
 use Rattle.floats.specs.Way.{Way, given, f64}
+use Rattle.floats.specs.declared.Position.{Position}
 use Rattle.lines.specs.declared.Params.{Params}
 
 -- each vertex carries its three parameters together
@@ -55,6 +58,23 @@ carried p = record { x = given (p .x); y = given (p .y); w = given (p .w) }
 
 abbrev pub valuesOf : Parameters Way → Params
 valuesOf p = record { x = p .x .value; y = p .y .value; w = p .w .value }
+
+-- the side from one position to another
+abbrev pub sideOf : Position → Position → Position
+sideOf a b = record { x = sub binary64 (b .x) (a .x); y = sub binary64 (b .y) (a .y) }
+
+-- the cross of two sides
+abbrev pub crossOfSides : Position → Position → Float
+crossOfSides a b = cross f64 (given (a .x)) (given (a .y)) (given (b .x)) (given (b .y)) .value
+
+-- a vertex's parameters from d and V's sides, a from V0 to V1 and b from V0 to V2, computed before: in d's cross the side to u stands in the place of a, and then of b
+abbrev pub paramsBy : Float → Position → Position → Position → Position → Params
+paramsBy d v0 a b u =
+    let turned : Float → Float = λ v. cond (lt d nought) (neg v) v in
+    let c = sideOf v0 u in
+    let x = turned (crossOfSides c b) in
+    let y = turned (crossOfSides a c) in
+    record { x = x; y = y; w = sub binary64 (sub binary64 (turned d) x) y }
 
 unfoldable pub signsOf : Params → List Bool
 unfolding signs

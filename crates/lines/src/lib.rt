@@ -3,7 +3,7 @@ ghost use mathlib.Core.Path.{_≡_};
 ghost use Prim.Native.Nat.{_<_};
 ghost use Rattle.floats.specs.Way.{f64, given, at};
 ghost use Rattle.lines.specs.Lines.{cornerOn, lineOf, endOf};
-ghost use Rattle.lines.specs.Parameters.{parameter, parametersBy, carried, valuesOf, signsOf};
+ghost use Rattle.lines.specs.Parameters.{parameter, parametersBy, carried, valuesOf, sideOf, paramsBy, signsOf};
 
 // The corner of V on two lines: row a, column b. The diagonal has no meaning.
 const CORNERS: [[usize; 3]; 3] = [[0, 0, 2], [0, 1, 1], [2, 1, 2]];
@@ -57,6 +57,34 @@ pub fn end_of(e: usize, i: usize) -> usize
     0
 }
 
+// The side from one position to another.
+pub fn side(from: floats::Position, to: floats::Position) -> floats::Position
+    ensures { λ r. ⌜ r ≡ sideOf from to ⌝ }
+{
+    floats::Position {
+        x: to.x - from.x,
+        y: to.y - from.y,
+    }
+}
+
+// The parameters of the vertex u, with d and V's sides known: a from V0 to V1, and b from V0 to V2.
+pub fn params_by(
+    d: f64,
+    v0: floats::Position,
+    a: floats::Position,
+    b: floats::Position,
+    u: floats::Position,
+) -> Params
+    ensures { λ r. ⌜ r ≡ paramsBy d v0 a b u ⌝ }
+{
+    let c = side(v0, u);
+    let below = d < 0.0;
+    let x = floats::turned_if(below, floats::cross_of(c.x, c.y, b.x, b.y));
+    let y = floats::turned_if(below, floats::cross_of(a.x, a.y, c.x, c.y));
+    let w = floats::turned_if(below, d) - x - y;
+    Params { x, y, w }
+}
+
 // The parameters of the vertex u, with d known.
 pub fn params_of(
     d: f64,
@@ -67,11 +95,7 @@ pub fn params_of(
 ) -> Params
     ensures { λ r. ⌜ r ≡ valuesOf (parametersBy f64 (given d) (at v0) (at v1) (at v2) (at u)) ⌝ }
 {
-    let below = d < 0.0;
-    let x = floats::turned_if(below, floats::cross_from(v0, u, v2));
-    let y = floats::turned_if(below, floats::cross_from(v0, v1, u));
-    let w = floats::turned_if(below, d) - x - y;
-    Params { x, y, w }
+    params_by(d, v0, side(v0, v1), side(v0, v2), u)
 }
 
 // The parameter of line a: x of line 0, y of line 1, w of any other.

@@ -27,12 +27,13 @@ use Rattle.triangles.specs.Positions.{positionOf, ringPositions, valuesOfCorner
 use Rattle.triangles.specs.Refusals.{wayToPairTest, wayToPosition, wayToArea, positionsWay, testsWay, wayOf, refusalOf}
 use Rattle.triangles.specs.Answers.{refusal, answerOf, written, answered}
 use Rattle.triangles.specs.Promise.{Promise}
-use Rattle.routine.specs.Code.{positionAt, frontOf, spotsTo, fineTo, areaBy}
+use Rattle.routine.specs.Code.{positionAt, frontOf, clearBy, beyondBy, spotsTo, fineTo, areaBy}
 use Rattle.triangles.proofs.Demand.{sound}
 use Rattle.triangles.proofs.Rest.{ring-fits}
 use Rattle.triangles.proofs.Rows.{answered-is}
 use Rattle.triangles.proofs.Told.{told-area}
 use Rattle.routine.proofs.Cascade.{backFine, short, by-front, back-fine, back-not-fine, keeps-refusal}
+use Rattle.routine.proofs.Front.{by-clear}
 use Rattle.routine.proofs.Edges.{signs-are, befores-are, tests-fine, ring-is, beyond-nothing, beyond-untested}
 use Rattle.routine.proofs.Spots.{params, spotFine, ways-fine, fine-ways}
 use Rattle.routine.proofs.Laid.{all-laid, all-fine, area-is, no-area, area-corners}
@@ -227,11 +228,6 @@ module _ (l room : List Float) (p q r : Params) (s t u : List Bool) (known : (le
   signs-named : s ∷ t ∷ u ∷ [] ≡ vertexSigns l
   signs-named = rw (hs, ht, hu, named .0, named .1, named .2) (sym (signs-are l))
 
-  pub beyond-kept : {b : Bool} {answer : Answer} → b ≡ beyondALine (s ∷ t ∷ u ∷ []) → b ≡ true → answer ≡ refusal 0 → Promise l room answer room
-  beyond-kept hb h e =
-      subst (λ a. Promise l room a room) (sym e)
-      (keeps-beyond l room (known .0) (known .1) (known .2) (ap beyondALine (sym signs-named) ∙ (sym hb ∙ h)))
-
   module _ (a b c : Order) (ha : a ≡ orderBy (tested p q s) s t) (hb : b ≡ orderBy (tested q r t) t u) (hc : c ≡ orderBy (tested p r s) s u) where
     abbrev at-edge : ℕ → ℕ → Order
     at-edge i j = orderBy (tested (paramsOf l i) (paramsOf l j) (signsOf (paramsOf l i))) (signsOf (paramsOf l i)) (signsOf (paramsOf l j))
@@ -260,13 +256,28 @@ module _ (l room : List Float) (p q r : Params) (s t u : List Bool) (known : (le
         (keeps-refusal l room
         (back-not-fine l room (known .0) (known .1) (known .2) (ap (λ b. b && (all finite (wayOf wayToPosition l) && all finite (wayOf wayToArea l))) (sym all-fine-is ∙ h))) (λ z. omega (arith, z)))
 
+-- ---- from d, e and the parameters on
+module _ (l : List Float) (d e : Float) (p q r : Params) (n : length l ≡ 12) (named : (d ≡ dOfV l .value) × (e ≡ eOfU l .value) × (p ≡ paramsOf l 0) × (q ≡ paramsOf l 1) × (r ≡ paramsOf l 2)) where
+  both : (a b : Bool) → (a && b) ≡ true → (a ≡ true) × (b ≡ true)
+  both true b h = (refl, h)
+  both false b h = absurd (false≢true h)
+
+  pub beyond-kept : (room : List Float) → 12 ≤ length room → beyondBy d e p q r ≡ true → Promise l room (refusal 0) room
+  unfolding beyondBy
+  beyond-kept room m h =
+      let seen = both (clearBy d e p q r) (beyondALine (signsOf p ∷ signsOf q ∷ signsOf r ∷ [])) h in
+      keeps-beyond l room n m (by-clear l d e p q r named n (seen .0)) (rw (signs-are l, ← named .2, ← named .3, ← named .4) (seen .1))
+
 -- ---- from the lengths on
 module _ (l room : List Float) {k : ℕ} {answer : Answer} (e : answer ≡ refusal k) where
   abbrev Kept : Type 0
   Kept = Promise l room answer room
 
+  pub kept-as : Promise l room (refusal k) room → Kept
+  kept-as h = subst (λ a. Promise l room a room) (sym e) h
+
   kept : refusalOf l room ≡ k → (k ≡ 0 → ⊥) → Kept
-  kept h z = subst (λ a. Promise l room a room) (sym e) (keeps-refusal l room h z)
+  kept h z = kept-as (keeps-refusal l room h z)
 
   pub front-kept : length l ≡ 12 → 12 ≤ length room → k ≡ frontOf l → (k ≡ 0 → ⊥) → Kept
   front-kept n m h z = kept (by-front l room n m (λ f. z (h ∙ f)) ∙ sym h) z

@@ -1,7 +1,7 @@
 -- The rows from the coordinates to the parameters, by the last values alone: d, e and the three w. And where the sum of e and the three w is
 -- finite, none of these rows looks at a value that is not. Assumes nothing.
 use mathlib.Core.Path.{_≡_, refl, sym, ap, ap₂, _∙_}
-use mathlib.Core.Bool.{Bool, true, false, not, _&&_, cond, and-false}
+use mathlib.Core.Bool.{Bool, true, false, not, _&&_, cond, and-false, false≢true}
 use mathlib.Core.List.{List, [], _∷_, _++_}
 use Prim.Native.Nat.{ℕ, zero, suc, _+_, _<_}
 use native.Mathlib.Omega.{arith}
@@ -16,7 +16,7 @@ use Rattle.lines.proofs.Told.{w-operands}
 use Rattle.lines.specs.declared.Params.{Params}
 use Rattle.triangles.specs.Pair.{vertexOf, cornerOf, dOfV, eOfU, parametersOf, paramsOf}
 use Rattle.triangles.specs.Refusals.{wayToParameter, parametersWay, wayOf, rowTest, firstOf}
-use Rattle.routine.specs.Code.{frontOf}
+use Rattle.routine.specs.Code.{frontOf, clearBy}
 use Rattle.triangles.proofs.Told.{told-d, told-e, told-parameter}
 
 -- by values: the coordinates, d, e and the parameters
@@ -90,6 +90,12 @@ unfolding all
 all-places [] h = refl
 all-places (x ∷ l) h = ap₂ _&&_ (h 0 (omega arith)) (all-places l (λ k b. h (suc k) (omega (arith, b))))
 
+clear-parts : (a b c : Bool) → (a && (not b && not c)) ≡ true → (a ≡ true) × (b ≡ false) × (c ≡ false)
+clear-parts true true c h = absurd (false≢true h)
+clear-parts true false true h = absurd (false≢true h)
+clear-parts true false false h = (refl, refl, refl)
+clear-parts false b c h = absurd (false≢true h)
+
 module _ (l : List Float) where
   u-finite : finite (eOfU l .value) ≡ true → FinitePoint (vertexOf l 0) × FinitePoint (vertexOf l 1) × FinitePoint (vertexOf l 2)
   unfolding eOfU
@@ -99,28 +105,25 @@ module _ (l : List Float) where
   unfolding dOfV
   v-finite h = crossFrom-operands (cornerOf l 0) (cornerOf l 1) (cornerOf l 2) h
 
-  pub front-by-sum : length l ≡ 12 → finite (add binary64 (add binary64 (add binary64 (paramsOf l 0 .w) (paramsOf l 1 .w)) (paramsOf l 2 .w)) (eOfU l .value)) ≡ true →
-      frontBy l (dOfV l .value) (eOfU l .value) (paramsOf l 0) (paramsOf l 1) (paramsOf l 2) ≡ cond (eq (dOfV l .value) nought) 3 (cond (eq (eOfU l .value) nought) 5 0)
-  unfolding frontBy
-  front-by-sum n h =
-      let three = add-operands (add binary64 (add binary64 (w l 0) (w l 1)) (w l 2)) (eOfU l .value) h in
+  -- where the sum is finite and neither d nor e is zero, no row of these holds
+  front-clear : length l ≡ 12 → clearBy (dOfV l .value) (eOfU l .value) (paramsOf l 0) (paramsOf l 1) (paramsOf l 2) ≡ true → frontOf l ≡ 0
+  unfolding clearBy frontBy
+  front-clear n h =
+      let seen = clear-parts (finite (add binary64 (add binary64 (add binary64 (w l 0) (w l 1)) (w l 2)) (eOfU l .value))) (eq (dOfV l .value) nought) (eq (eOfU l .value) nought) h in
+      let three = add-operands (add binary64 (add binary64 (w l 0) (w l 1)) (w l 2)) (eOfU l .value) (seen .0) in
       let two = add-operands (add binary64 (w l 0) (w l 1)) (w l 2) (three .0) in
       let one = add-operands (w l 0) (w l 1) (two .0) in
       let d = w-tells l 0 (one .0) .0 in
       let c = all-places l (λ k b. coordinate l (u-finite (three .1)) (v-finite d) k (omega (arith, b, n))) in
-      rw (c, d, three .1, one .0, one .1, two .1) refl
+      sym (front-is l) ∙ rw (c, d, three .1, one .0, one .1, two .1, seen .1, seen .2) refl
 
 -- ---- as the code comes to it
 module _ (l : List Float) (d e : Float) (p q r : Params) (given : (d ≡ dOfV l .value) × (e ≡ eOfU l .value) × (p ≡ paramsOf l 0) × (q ≡ paramsOf l 1) × (r ≡ paramsOf l 2)) where
   pub to-front : {k : ℕ} → k ≡ frontBy l d e p q r → k ≡ frontOf l
   to-front h = h ∙ rw (given .0, given .1, given .2, given .3, given .4) (front-is l)
 
-  pub by-sum : {k : ℕ} {b : Bool} → length l ≡ 12 → b ≡ finite (add binary64 (add binary64 (add binary64 (p .w) (q .w)) (r .w)) e) → b ≡ true → k ≡ cond (eq d nought) 3 (cond (eq e nought) 5 0) → k ≡ frontOf l
-  by-sum n s t h =
-      let sum = ap₂ (λ x y. finite (add binary64 x y)) (ap₂ (add binary64) (ap₂ (λ x y. add binary64 (x .w) (y .w)) (given .2) (given .3)) (ap (λ x. x .w) (given .4))) (given .1) in
-      h
-      ∙ (ap₂ (λ x y. cond (eq x nought) 3 (cond (eq y nought) 5 0)) (given .0) (given .1)
-      ∙ (sym (front-by-sum l n (sym sum ∙ (sym s ∙ t))) ∙ front-is l))
+  pub by-clear : length l ≡ 12 → clearBy d e p q r ≡ true → frontOf l ≡ 0
+  by-clear n h = front-clear l n (rw (given .0, given .1, given .2, given .3, given .4) at h)
 
 -- a test and its answer, turned
 pub not-of : {b c r : Bool} → b ≡ c → not b ≡ r → not c ≡ r

@@ -6,3 +6,5 @@ pub mod Edges
 pub mod Spots
 pub mod Laid
 pub mod Entry
+pub mod Shapes
+pub mod Decisions

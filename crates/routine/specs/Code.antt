@@ -1,19 +1,19 @@
 -- The steps of the code from the values to the answer. That they give the answer of the rules is the entry point's promise. Definitions only.
-use mathlib.Core.Bool.{Bool, true, _&&_, cond}
+use mathlib.Core.Bool.{Bool, true, not, _&&_, cond}
 use mathlib.Core.List.{List, [], _∷_, _++_}
 use Prim.Native.Nat.{ℕ, zero, suc, _+_, _-_, _*_}
 use lib.ListN.{getD}
-use lib.Ieee.{Float, nan, binary64, add, sub, mul, neg, lt}
+use lib.Ieee.{Float, nan, binary64, add, sub, mul, neg, lt, eq}
 use Rattle.floats.specs.Finite.{finite, nought}
 use Rattle.floats.specs.Numbers.{crossFrom}
 use Rattle.floats.specs.Way.{given, f64, at}
 use Rattle.floats.specs.declared.Position.{Position}
 use Rattle.lines.specs.Lines.{signsAt, start, finish}
 use Rattle.lines.specs.declared.Params.{Params}
-use Rattle.lines.specs.Parameters.{parameter, carried}
+use Rattle.lines.specs.Parameters.{parameter, carried, signsOf}
 use Rattle.ring.specs.Places.{Place, vertex, corner, crossing}
 use Rattle.walk.specs.declared.Corner.{Corner}
-use Rattle.walk.specs.Code.{coded, placeOf}
+use Rattle.walk.specs.Code.{coded, placeOf, beyondALine}
 use Rattle.routine.specs.declared.Spot.{Spot}
 use Rattle.triangles.specs.Positions.{fraction, between, half}
 use Rattle.triangles.specs.Refusals.{coordinates, wayToD, dZero, wayToE, eZero, wayToParameter, firstOf}
@@ -26,6 +26,14 @@ positionAt l k = record { x = getD l (2 * k) nan; y = getD l (2 * k + 1) nan }
 unfoldable pub frontOf : List Float → ℕ
 unfolding firstOf
 frontOf l = firstOf (coordinates ∷ wayToD ∷ dZero ∷ wayToE ∷ eZero ∷ wayToParameter ∷ []) l []
+
+-- what is seen at once: the sum of e and the three w is finite, and neither d nor e is zero
+unfoldable pub clearBy : Float → Float → Params → Params → Params → Bool
+clearBy d e p q r = finite (add binary64 (add binary64 (add binary64 (p .w) (q .w)) (r .w)) e) && (not (eq d nought) && not (eq e nought))
+
+-- .. and all of U lies beyond one of V's lines
+unfoldable pub beyondBy : Float → Float → Params → Params → Params → Bool
+beyondBy d e p q r = clearBy d e p q r && beyondALine (signsOf p ∷ signsOf q ∷ signsOf r ∷ [])
 
 -- ---- positions
 abbrev pub copied : Position → Spot

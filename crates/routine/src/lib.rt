@@ -11,7 +11,24 @@ ghost use Rattle.triangles.specs.Pair.{dOfV, eOfU, paramsOf, vertexSigns, edgeO
 ghost use Rattle.triangles.specs.Refusals.{wayToPairTest, wayOf};
 ghost use Rattle.triangles.specs.Answers.{refusal, written};
 ghost use Rattle.triangles.specs.Promise.{Promise};
-ghost use Rattle.routine.specs.Code.{positionAt, frontOf, spotOn, crossSpot, spotOf, spotsTo, fineTo, areaBy};
+ghost use Rattle.triangles.specs.Decision.{decided, decisionOf, Decided};
+ghost use Rattle.routine.specs.Code.{positionAt, frontOf, clearBy, beyondBy, spotOn, crossSpot, spotOf, spotsTo, fineTo, areaBy};
+ghost use Rattle.routine.specs.Shapes.{shapeOf, Made, twelve};
+
+// A triangle made ready for every pair that it stands in: its vertices, the sides a and b from the first vertex to the second and the third, and their cross.
+pub struct Shape {
+    pub x0: f64,
+    pub y0: f64,
+    pub x1: f64,
+    pub y1: f64,
+    pub x2: f64,
+    pub y2: f64,
+    pub ax: f64,
+    pub ay: f64,
+    pub bx: f64,
+    pub by: f64,
+    pub cross: f64,
+}
 
 // The position of a corner of the ring; and whether the denominator of its t, if it has one, is finite.
 struct Spot {
@@ -99,7 +116,25 @@ fn number_by_rows(
     4
 }
 
-// The same number. A sum that is finite has finite terms: where that of e and the three w is, no coordinate and nothing on the way to them is not.
+// Whether one sum tells that none of these rows holds. A sum that is finite has finite terms: where that of e and the three w is, no coordinate
+// and nothing on the way to them is not.
+fn clear(d: f64, e: f64, p: lines::Params, q: lines::Params, r: lines::Params) -> bool
+    ensures { λ b. ⌜ b ≡ clearBy d e p q r ⌝ }
+{
+    floats::is_finite(p.w + q.w + r.w + e) & ((d != 0.0) & (e != 0.0))
+}
+
+// Whether the sum tells so and all of U lies beyond one of V's lines: then nothing is found.
+fn beyond(d: f64, e: f64, p: lines::Params, q: lines::Params, r: lines::Params) -> bool
+    ensures { λ b. ⌜ b ≡ beyondBy d e p q r ⌝ }
+{
+    if clear(d, e, p, q, r) {
+        return walk::apart([lines::signs_of(p), lines::signs_of(q), lines::signs_of(r)]);
+    }
+    false
+}
+
+// The number of these rows, which are asked one by one only where the sum does not tell.
 fn number_of(
     values: &[f64],
     d: f64,
@@ -112,13 +147,7 @@ fn number_of(
     requires { ⌜ (d ≡ dOfV (now values) .value) × (e ≡ eOfU (now values) .value) × (p ≡ paramsOf (now values) 0) × (q ≡ paramsOf (now values) 1) × (r ≡ paramsOf (now values) 2) ⌝ }
     ensures { λ k. ⌜ k ≡ frontOf (now (values .entry)) ⌝ }
 {
-    if floats::is_finite(p.w + q.w + r.w + e) {
-        if d == 0.0 {
-            return 3;
-        }
-        if e == 0.0 {
-            return 5;
-        }
+    if clear(d, e, p, q, r) {
         return 0;
     }
     number_by_rows(values, d, e, p, q, r)
@@ -207,17 +236,6 @@ fn corners_of(
     Corners { xy, fine }
 }
 
-// Corner k of these.
-fn corner_at(xy: [f64; 12], k: usize) -> floats::Position
-    requires { ⌜ k < 6 ⌝ }
-    ensures { λ r. ⌜ r ≡ positionAt xy k ⌝ }
-{
-    floats::Position {
-        x: xy[2 * k],
-        y: xy[2 * k + 1],
-    }
-}
-
 // The area of n corners.
 fn area_of(xy: [f64; 12], n: usize) -> f64
     requires { ⌜ n ≤ 6 ⌝ }
@@ -226,7 +244,11 @@ fn area_of(xy: [f64; 12], n: usize) -> f64
     let mut sum = 0.0;
     let mut k = 0;
     while k + 2 < n {
-        let next = floats::cross_from(corner_at(xy, 0), corner_at(xy, k + 1), corner_at(xy, k + 2));
+        let next = floats::cross_from(
+            position_at(&xy, 0),
+            position_at(&xy, k + 1),
+            position_at(&xy, k + 2),
+        );
         sum = sum + next;
         k += 1;
     }
@@ -281,7 +303,7 @@ fn placed(
     refused(4)
 }
 
-// From the parameters on. Where all of U lies beyond one of V's lines nothing is found; else the orders along U's edges are decided, all three.
+// From the parameters on: the orders along U's edges are decided, all three.
 fn ordered(
     values: &[f64],
     room: &mut [f64],
@@ -296,9 +318,6 @@ fn ordered(
     let s = lines::signs_of(p);
     let t = lines::signs_of(q);
     let u = lines::signs_of(r);
-    if walk::apart([s, t, u]) {
-        return refused(0);
-    }
     let a = edges::order_of(p, q, s, t);
     let b = edges::order_of(q, r, t, u);
     let c = edges::order_of(p, r, s, u);
@@ -309,6 +328,27 @@ fn ordered(
         return placed(values, room, [p, q, r], [s, t, u], [x, y, z]);
     }
     refused(4)
+}
+
+// From d, e and the parameters on.
+fn settled(
+    values: &[f64],
+    room: &mut [f64],
+    d: f64,
+    e: f64,
+    p: lines::Params,
+    q: lines::Params,
+    r: lines::Params,
+) -> triangles::Answer
+    requires { ⌜ (length (now values) ≡ 12) × (12 ≤ length (now room)) ⌝ }
+    requires { ⌜ (d ≡ dOfV (now values) .value) × (e ≡ eOfU (now values) .value) × (p ≡ paramsOf (now values) 0) × (q ≡ paramsOf (now values) 1) × (r ≡ paramsOf (now values) 2) ⌝ }
+    ensures { λ r. ⌜ Promise (now (values .entry)) (now (room .entry)) r (now (room .exit)) ⌝ }
+{
+    let k = number_of(values, d, e, p, q, r);
+    if k == 0 {
+        return ordered(values, room, p, q, r);
+    }
+    refused(k)
 }
 
 // Two triangles, U0x, U0y, .. V2y: the answer, with the ring's corners at the front of the room, or a refusal, with the room as it was.
@@ -332,9 +372,87 @@ pub fn intersect(values: &[f64], room: &mut [f64]) -> triangles::Answer
     let p = lines::params_of(d, v0, v1, v2, u0);
     let q = lines::params_of(d, v0, v1, v2, u1);
     let r = lines::params_of(d, v0, v1, v2, u2);
-    let k = number_of(values, d, e, p, q, r);
-    if k == 0 {
-        return ordered(values, room, p, q, r);
+    if beyond(d, e, p, q, r) {
+        return refused(0);
     }
-    refused(k)
+    settled(values, room, d, e, p, q, r)
+}
+
+// An answer as a decision.
+fn decision_from(a: triangles::Answer) -> triangles::Decision
+    ensures { λ r. ⌜ r ≡ decided a ⌝ }
+{
+    if a.number != 0 {
+        return triangles::Decision::Refused(a.number);
+    }
+    if a.n == 0 {
+        return triangles::Decision::Apart;
+    }
+    triangles::Decision::Ring(a.area)
+}
+
+// Two triangles, U0x, U0y, .. V2y: what is decided of them.
+pub fn decision(values: &[f64]) -> triangles::Decision
+    ensures { λ r. ⌜ Decided (now (values .entry)) r ⌝ }
+{
+    let mut room = [0.0; 12];
+    decision_from(intersect(values, &mut room))
+}
+
+// The triangle of these vertices, made ready.
+pub fn shape_of(x0: f64, y0: f64, x1: f64, y1: f64, x2: f64, y2: f64) -> Shape
+    ensures { λ r. ⌜ r ≡ shapeOf x0 y0 x1 y1 x2 y2 ⌝ }
+{
+    let ax = x1 - x0;
+    let ay = y1 - y0;
+    let bx = x2 - x0;
+    let by = y2 - y0;
+    let cross = floats::cross_of(ax, ay, bx, by);
+    Shape {
+        x0,
+        y0,
+        x1,
+        y1,
+        x2,
+        y2,
+        ax,
+        ay,
+        bx,
+        by,
+        cross,
+    }
+}
+
+// Two triangles, each made ready by `shape_of`: what is decided of them.
+pub fn decision_of(u: Shape, v: Shape) -> triangles::Decision
+    requires { ⌜ Made u × Made v ⌝ }
+    ensures { λ r. ⌜ r ≡ decisionOf (twelve u v) ⌝ }
+{
+    let d = v.cross;
+    let e = u.cross;
+    let v0 = floats::Position { x: v.x0, y: v.y0 };
+    let a = floats::Position { x: v.ax, y: v.ay };
+    let b = floats::Position { x: v.bx, y: v.by };
+    let p = lines::params_by(d, v0, a, b, floats::Position { x: u.x0, y: u.y0 });
+    let q = lines::params_by(d, v0, a, b, floats::Position { x: u.x1, y: u.y1 });
+    let r = lines::params_by(d, v0, a, b, floats::Position { x: u.x2, y: u.y2 });
+    if beyond(d, e, p, q, r) {
+        return triangles::Decision::Apart;
+    }
+    let values = [
+        u.x0,
+        u.y0,
+        u.x1,
+        u.y1,
+        u.x2,
+        u.y2,
+        v.x0,
+        v.y0,
+        v.x1,
+        v.y1,
+        v.x2,
+        v.y2,
+    ];
+    let mut room = [0.0; 12];
+    decision_from(settled(&values, &mut room, d, e, p, q, r))
 }

@@ -14,10 +14,10 @@ use Rattle.routine.proofs.area_of.Statement.{statement}
 use Rattle.routine.proofs.area_of.Tie as tie
 
 abbrev Inv-loop : tie.InvT-loop
-Inv-loop xy n sum₀ k₀ sum k = (k ≤ n - 2) × (sum ≡ sumBy xy k)
+Inv-loop n xy sum₀ k₀ sum k = (k ≤ n - 2) × (sum ≡ sumBy xy k)
 
 abbrev μ-loop : tie.MeasureT-loop
-μ-loop xy n sum₀ k₀ sum k = n - k
+μ-loop n xy sum₀ k₀ sum k = n - k
 
 loop-holds : tie.Need-loop-holds Inv-loop μ-loop
 unfolding sumBy
@@ -26,20 +26,29 @@ loop-holds c = (search needs, refl)
 add-loop : tie.Need-add-loop Inv-loop μ-loop
 add-loop c = search needs
 
-corner-at-requires : tie.Need-corner-at-requires Inv-loop μ-loop
-corner-at-requires c κs = search needs
+slice-aggregate-position-at : tie.Need-slice-aggregate-position-at Inv-loop μ-loop
+slice-aggregate-position-at c = search needs
 
-add-corner-at : tie.Need-add-corner-at Inv-loop μ-loop
-add-corner-at c = search needs
+position-at-requires : tie.Need-position-at-requires Inv-loop μ-loop
+position-at-requires c κs = search needs
 
-corner-at-requires-2 : tie.Need-corner-at-requires-2 Inv-loop μ-loop
-corner-at-requires-2 c κs = search needs
+slice-aggregate-position-at-2 : tie.Need-slice-aggregate-position-at-2 Inv-loop μ-loop
+slice-aggregate-position-at-2 c = search needs
 
-add-corner-at-2 : tie.Need-add-corner-at-2 Inv-loop μ-loop
-add-corner-at-2 c = search needs
+add-position-at : tie.Need-add-position-at Inv-loop μ-loop
+add-position-at c = search needs
 
-corner-at-requires-3 : tie.Need-corner-at-requires-3 Inv-loop μ-loop
-corner-at-requires-3 c κs = search needs
+position-at-requires-2 : tie.Need-position-at-requires-2 Inv-loop μ-loop
+position-at-requires-2 c κs = search needs
+
+slice-aggregate-position-at-3 : tie.Need-slice-aggregate-position-at-3 Inv-loop μ-loop
+slice-aggregate-position-at-3 c = search needs
+
+add-position-at-2 : tie.Need-add-position-at-2 Inv-loop μ-loop
+add-position-at-2 c = search needs
+
+position-at-requires-3 : tie.Need-position-at-requires-3 Inv-loop μ-loop
+position-at-requires-3 c κs = search needs
 
 cross-from-requires : tie.Need-cross-from-requires Inv-loop μ-loop
 cross-from-requires c κs = search needs
@@ -53,11 +62,11 @@ loop-less c = search needs
 loop-again : tie.Need-loop-again Inv-loop μ-loop
 loop-again c =
     let b1 = c .before in
-    let b2 = b1 .before in
-    let b3 = b2 .before in
-    let b4 = b3 .before in
-    let inv = b4 .before .loop .inv in
-    (omega (arith, b4 .loop-test .taken), one-summed _ _ (inv .1) (b3 .corner-at .ensures) (b2 .corner-at2 .ensures) (b1 .corner-at3 .ensures) (c .cross-from .ensures))
+    let b3 = b1 .before .before in
+    let b5 = b3 .before .before in
+    let b7 = b5 .before .before in
+    let inv = b7 .before .loop .inv in
+    (omega (arith, b7 .loop-test .taken), one-summed _ _ (inv .1) (b5 .position-at .ensures) (b3 .position-at2 .ensures) (b1 .position-at3 .ensures) (c .cross-from .ensures))
 
 turned-if-requires : tie.Need-turned-if-requires Inv-loop μ-loop
 turned-if-requires c κs = search needs
@@ -68,7 +77,7 @@ returns c =
     let b = c .before .before in
     let g = b .before .args in
     let n : b .loop .k ≡ g .n - 2 = le-antisymm (b .loop .inv .0) (omega (arith, c .before .loop-test .left)) in
-    ap (mul binary64 half) (c .turned-if .ensures ∙ ap (λ sum. cond (lt sum nought) (neg sum) sum) (b .loop .inv .1 ∙ ap (sumBy (g .xy)) n))
+    ap (mul binary64 half) (c .turned-if .ensures ∙ ap (λ sum. cond (lt sum nought) (neg sum) sum) (b .loop .inv .1 ∙ ap (sumBy (g .t1)) n))
 
 pub area-of-spec : {M : Type 1} → statement M
 area-of-spec =
@@ -78,11 +87,14 @@ area-of-spec =
     μ-loop
     loop-holds
     add-loop
-    corner-at-requires
-    add-corner-at
-    corner-at-requires-2
-    add-corner-at-2
-    corner-at-requires-3
+    slice-aggregate-position-at
+    position-at-requires
+    slice-aggregate-position-at-2
+    add-position-at
+    position-at-requires-2
+    slice-aggregate-position-at-3
+    add-position-at-2
+    position-at-requires-3
     cross-from-requires
     add-k
     loop-less

@@ -1,8 +1,8 @@
--- Lengths first, then the rows to the parameters, then the rest.
+-- Lengths first, then the early out, then the rest.
 use mathlib.Core.Path.{sym, _∙_}
 use mathlib.Core.Logic.{inl, inr}
 use denote.Ref.{now}
-use Rattle.routine.proofs.Entry.{all-given, front-kept, lengths-kept}
+use Rattle.routine.proofs.Entry.{all-given, beyond-kept, kept-as, lengths-kept}
 use borrow.Author.Needs.{needs}
 use Rattle.routine.proofs.intersect.Statement.{statement}
 use Rattle.routine.proofs.intersect.Tie as tie
@@ -52,31 +52,14 @@ params-of-requires-2 c κs = search needs
 params-of-requires-3 : tie.Need-params-of-requires-3
 params-of-requires-3 c κs = search needs
 
-number-of-requires : tie.Need-number-of-requires
-number-of-requires c κs =
-    let b1 = c .before in
-    let b2 = b1 .before in
-    let b3 = b2 .before in
-    let b4 = b3 .before in
-    let b5 = b4 .before in
-    let b6 = b5 .before in
-    let b7 = b6 .before in
-    let b8 = b7 .before in
-    let b9 = b8 .before in
-    let b10 = b9 .before in
-    let b11 = b10 .before in
-    let b12 = b11 .before in
-    let b13 = b12 .before in
-    let b14 = b13 .before in
-    let b15 = b14 .before in
-    let g = b15 .args in (
-      b12 .if1 .left,
-      all-given (now (g .values)) (b10 .position-at .ensures) (b9 .position-at2 .ensures) (b8 .position-at3 .ensures) (b7 .position-at4 .ensures) (b6 .position-at5 .ensures) (b5 .position-at6 .ensures)
-          (b4 .cross-from .ensures) (b3 .cross-from2 .ensures) (b2 .params-of .ensures) (b1 .params-of2 .ensures) (c .params-of3 .ensures),
-    )
+beyond-requires : tie.Need-beyond-requires
+beyond-requires c κs = search needs
 
-ordered-requires : tie.Need-ordered-requires
-ordered-requires c κs =
+refused-requires-3 : tie.Need-refused-requires-3
+refused-requires-3 c κs = search needs
+
+returns-3 : tie.Need-returns-3
+returns-3 c =
     let b1 = c .before in
     let b2 = b1 .before in
     let b3 = b2 .before in
@@ -98,19 +81,10 @@ ordered-requires c κs =
     let g = b18 .args in
     let all = all-given (now (g .values)) (b13 .position-at .ensures) (b12 .position-at2 .ensures) (b11 .position-at3 .ensures) (b10 .position-at4 .ensures) (b9 .position-at5 .ensures) (b8 .position-at6 .ensures)
     (b7 .cross-from .ensures) (b6 .cross-from2 .ensures) (b5 .params-of .ensures) (b4 .params-of2 .ensures) (b3 .params-of3 .ensures) in
-    ((b15 .if1 .left, b14 .if2 .left, sym (b2 .number-of .ensures) ∙ b1 .if3 .taken), (all .2, all .3, all .4))
+    kept-as (now (g .values)) (now (g .room)) (c .refused3 .ensures) (beyond-kept (now (g .values)) _ _ _ _ _ (b15 .if1 .left) all (now (g .room)) (b14 .if2 .left) (sym (b2 .beyond .ensures) ∙ b1 .if3 .taken))
 
-same-length : tie.Need-same-length
-same-length c = search needs
-
-returns-3 : tie.Need-returns-3
-returns-3 c = search needs
-
-refused-requires-3 : tie.Need-refused-requires-3
-refused-requires-3 c κs = search needs
-
-returns-4 : tie.Need-returns-4
-returns-4 c =
+settled-requires : tie.Need-settled-requires
+settled-requires c κs =
     let b1 = c .before in
     let b2 = b1 .before in
     let b3 = b2 .before in
@@ -130,7 +104,15 @@ returns-4 c =
     let b17 = b16 .before in
     let b18 = b17 .before in
     let g = b18 .args in
-    front-kept (now (g .values)) (now (g .room)) (c .refused3 .ensures) (b15 .if1 .left) (b14 .if2 .left) (b2 .number-of .ensures) (b1 .if3 .left)
+    let all = all-given (now (g .values)) (b13 .position-at .ensures) (b12 .position-at2 .ensures) (b11 .position-at3 .ensures) (b10 .position-at4 .ensures) (b9 .position-at5 .ensures) (b8 .position-at6 .ensures)
+    (b7 .cross-from .ensures) (b6 .cross-from2 .ensures) (b5 .params-of .ensures) (b4 .params-of2 .ensures) (b3 .params-of3 .ensures) in
+    ((b15 .if1 .left, b14 .if2 .left), all)
+
+same-length : tie.Need-same-length
+same-length c = search needs
+
+returns-4 : tie.Need-returns-4
+returns-4 c = search needs
 
 pub intersect-spec : {M : Type 1} → statement M
 intersect-spec =
@@ -151,9 +133,9 @@ intersect-spec =
     params-of-requires
     params-of-requires-2
     params-of-requires-3
-    number-of-requires
-    ordered-requires
-    same-length
-    returns-3
+    beyond-requires
     refused-requires-3
+    returns-3
+    settled-requires
+    same-length
     returns-4)

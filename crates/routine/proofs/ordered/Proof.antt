@@ -1,6 +1,6 @@
--- Beyond a line nothing is found; else the orders are decided, and refused if one of their pair tests is not finite.
+-- The orders are decided, and refused if one of their pair tests is not finite.
 use denote.Ref.{now}
-use Rattle.routine.proofs.Entry.{beyond-kept, tests-known, all-named, tests-refusal-kept}
+use Rattle.routine.proofs.Entry.{tests-known, all-named, tests-refusal-kept}
 use borrow.Author.Needs.{needs}
 use Rattle.routine.proofs.ordered.Statement.{statement}
 use Rattle.routine.proofs.ordered.Tie as tie
@@ -13,25 +13,6 @@ signs-of-requires-2 c κs = search needs
 
 signs-of-requires-3 : tie.Need-signs-of-requires-3
 signs-of-requires-3 c κs = search needs
-
-apart-requires : tie.Need-apart-requires
-apart-requires c κs = search needs
-
-refused-requires : tie.Need-refused-requires
-refused-requires c κs = search needs
-
-returns : tie.Need-returns
-returns c =
-    let b1 = c .before in
-    let b2 = b1 .before in
-    let b3 = b2 .before in
-    let b4 = b3 .before in
-    let b5 = b4 .before in
-    let b6 = b5 .before in
-    let b7 = b6 .before in
-    let b8 = b7 .before in
-    let g = b8 .args in
-    beyond-kept (now (g .values)) (now (g .room)) (g .p) (g .q) (g .r) _ _ _ (b8 .pre .0) (b8 .pre .1) (b5 .signs-of .ensures) (b4 .signs-of2 .ensures) (b3 .signs-of3 .ensures) (b2 .apart .ensures) (b1 .if1 .taken) (c .refused .ensures)
 
 order-of-requires : tie.Need-order-of-requires
 order-of-requires c κs = search needs
@@ -60,22 +41,22 @@ placed-requires c κs =
     let b14 = b13 .before in
     let b15 = b14 .before in
     let b16 = b15 .before in
-    let b17 = b16 .before in
-    let b18 = b17 .before in
-    let g = b18 .args in
-    (tests-known (now (g .values)) (now (g .room)) (g .p) (g .q) (g .r) _ _ _ (b18 .pre .0) (b18 .pre .1) (b15 .signs-of .ensures) (b14 .signs-of2 .ensures) (b13 .signs-of3 .ensures) _ _ _ (b10 .order-of .ensures) (b9 .order-of2 .ensures) (b8 .order-of3 .ensures) (b4 .if2 .taken), all-named (now (g .values)) (now (g .room)) (g .p) (g .q) (g .r) _ _ _ (b18 .pre .0) (b18 .pre .1) (b15 .signs-of .ensures) (b14 .signs-of2 .ensures) (b13 .signs-of3 .ensures) _ _ _ (b10 .order-of .ensures) (b9 .order-of2 .ensures) (b8 .order-of3 .ensures))
+    let g = b16 .args in (
+      tests-known (now (g .values)) (now (g .room)) (g .p) (g .q) (g .r) _ _ _ (b16 .pre .0) (b16 .pre .1) (b13 .signs-of .ensures) (b12 .signs-of2 .ensures) (b11 .signs-of3 .ensures) _ _ _ (b10 .order-of .ensures) (b9 .order-of2 .ensures) (b8 .order-of3 .ensures) (b4 .if1 .taken),
+      all-named (now (g .values)) (now (g .room)) (g .p) (g .q) (g .r) _ _ _ (b16 .pre .0) (b16 .pre .1) (b13 .signs-of .ensures) (b12 .signs-of2 .ensures) (b11 .signs-of3 .ensures) _ _ _ (b10 .order-of .ensures) (b9 .order-of2 .ensures) (b8 .order-of3 .ensures),
+    )
 
 same-length : tie.Need-same-length
 same-length c = search needs
 
+returns : tie.Need-returns
+returns c = search needs
+
+refused-requires : tie.Need-refused-requires
+refused-requires c κs = search needs
+
 returns-2 : tie.Need-returns-2
-returns-2 c = search needs
-
-refused-requires-2 : tie.Need-refused-requires-2
-refused-requires-2 c κs = search needs
-
-returns-3 : tie.Need-returns-3
-returns-3 c =
+returns-2 c =
     let b1 = c .before in
     let b2 = b1 .before in
     let b3 = b2 .before in
@@ -89,10 +70,8 @@ returns-3 c =
     let b11 = b10 .before in
     let b12 = b11 .before in
     let b13 = b12 .before in
-    let b14 = b13 .before in
-    let b15 = b14 .before in
-    let g = b15 .args in
-    tests-refusal-kept (now (g .values)) (now (g .room)) (g .p) (g .q) (g .r) _ _ _ (b15 .pre .0) (b15 .pre .1) (b12 .signs-of .ensures) (b11 .signs-of2 .ensures) (b10 .signs-of3 .ensures) _ _ _ (b7 .order-of .ensures) (b6 .order-of2 .ensures) (b5 .order-of3 .ensures) (b1 .if2 .left) (c .refused2 .ensures)
+    let g = b13 .args in
+    tests-refusal-kept (now (g .values)) (now (g .room)) (g .p) (g .q) (g .r) _ _ _ (b13 .pre .0) (b13 .pre .1) (b10 .signs-of .ensures) (b9 .signs-of2 .ensures) (b8 .signs-of3 .ensures) _ _ _ (b7 .order-of .ensures) (b6 .order-of2 .ensures) (b5 .order-of3 .ensures) (b1 .if1 .left) (c .refused .ensures)
 
 pub ordered-spec : {M : Type 1} → statement M
 ordered-spec =
@@ -101,14 +80,11 @@ ordered-spec =
     signs-of-requires
     signs-of-requires-2
     signs-of-requires-3
-    apart-requires
-    refused-requires
-    returns
     order-of-requires
     order-of-requires-2
     order-of-requires-3
     placed-requires
     same-length
-    returns-2
-    refused-requires-2
-    returns-3)
+    returns
+    refused-requires
+    returns-2)

@@ -1,0 +1,43 @@
+-- From two shapes, each that of its own vertices, come d, e and the parameters of their twelve values. Assumes nothing.
+use mathlib.Core.Path.{_≡_, refl, ap, ap₂, _∙_}
+use mathlib.Core.List.{List}
+use lib.Ieee.{Float}
+use Rattle.floats.specs.Way.{given, f64, at}
+use Rattle.floats.specs.declared.Position.{Position}
+use Rattle.lines.specs.declared.Params.{Params}
+use Rattle.lines.specs.Parameters.{parametersBy, valuesOf, paramsBy}
+use Rattle.lines.proofs.Sides.{by-sides}
+use Rattle.triangles.specs.Pair.{dOfV, eOfU, paramsOf}
+use Rattle.routine.specs.declared.Shape.{Shape}
+use Rattle.routine.specs.Shapes.{Made, twelve}
+use Rattle.routine.proofs.Entry.{all-given}
+
+-- a shape's vertices and sides
+abbrev first : Shape → Position
+first s = record { x = s .x0; y = s .y0 }
+
+abbrev second : Shape → Position
+second s = record { x = s .x1; y = s .y1 }
+
+abbrev third : Shape → Position
+third s = record { x = s .x2; y = s .y2 }
+
+abbrev a : Shape → Position
+a s = record { x = s .ax; y = s .ay }
+
+abbrev b : Shape → Position
+b s = record { x = s .bx; y = s .by }
+
+module _ (u v : Shape) (made : Made u × Made v) where
+  abbrev by-shape : Position → Params
+  by-shape w = paramsBy (v .cross) (first v) (a v) (b v) w
+
+  by-corners : (w : Position) → by-shape w ≡ valuesOf (parametersBy f64 (given (v .cross)) (at (first v)) (at (second v)) (at (third v)) (at w))
+  by-corners w = ap₂ (λ a b. paramsBy (v .cross) (first v) a b w) (ap a (made .1)) (ap b (made .1)) ∙ by-sides (v .cross) (first v) (second v) (third v) w
+
+  pub shapes-give : {p q r : Params} → p ≡ by-shape (first u) → q ≡ by-shape (second u) → r ≡ by-shape (third u) →
+      (v .cross ≡ dOfV (twelve u v) .value) × (u .cross ≡ eOfU (twelve u v) .value) × (p ≡ paramsOf (twelve u v) 0) × (q ≡ paramsOf (twelve u v) 1) × (r ≡ paramsOf (twelve u v) 2)
+  shapes-give hp hq hr =
+      all-given (twelve u v) {u0 = first u} {u1 = second u} {u2 = third u} {v0 = first v} {v1 = second v} {v2 = third v} refl refl refl refl refl refl
+      (ap (λ s. s .cross) (made .1)) (ap (λ s. s .cross) (made .0))
+      (hp ∙ by-corners (first u)) (hq ∙ by-corners (second u)) (hr ∙ by-corners (third u))

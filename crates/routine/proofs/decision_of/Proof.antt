@@ -1,0 +1,88 @@
+-- From two shapes come the same d, e and parameters as from their twelve values.
+use mathlib.Core.Path.{refl, sym, _∙_}
+use native.Mathlib.Omega.{arith}
+use lib.Ieee.{ofBits}
+use Rattle.triangles.specs.Decision.{enough}
+use Rattle.routine.specs.Shapes.{twelve}
+use Rattle.routine.proofs.Entry.{beyond-kept}
+use Rattle.routine.proofs.Shapes.{shapes-give}
+use Rattle.routine.proofs.Decisions.{decision-is, apart-is}
+use borrow.Author.Needs.{needs}
+use Rattle.routine.proofs.decision_of.Statement.{statement}
+use Rattle.routine.proofs.decision_of.Tie as tie
+
+params-by-requires : tie.Need-params-by-requires
+params-by-requires c κs = search needs
+
+params-by-requires-2 : tie.Need-params-by-requires-2
+params-by-requires-2 c κs = search needs
+
+params-by-requires-3 : tie.Need-params-by-requires-3
+params-by-requires-3 c κs = search needs
+
+beyond-requires : tie.Need-beyond-requires
+beyond-requires c κs = search needs
+
+returns : tie.Need-returns
+returns c =
+    let b1 = c .before in
+    let b2 = b1 .before in
+    let b3 = b2 .before in
+    let b4 = b3 .before in
+    let b5 = b4 .before in
+    let g = b5 .args in
+    let all = shapes-give (g .u) (g .v) (b5 .pre) (b4 .params-by .ensures) (b3 .params-by2 .ensures) (b2 .params-by3 .ensures) in
+    apart-is (twelve (g .u) (g .v)) (beyond-kept (twelve (g .u) (g .v)) _ _ _ _ _ refl all enough (omega arith) (sym (b1 .beyond .ensures) ∙ c .if1 .taken))
+
+slice-aggregate-settled : tie.Need-slice-aggregate-settled
+slice-aggregate-settled c = search needs
+
+slice-aggregate-settled-2 : tie.Need-slice-aggregate-settled-2
+slice-aggregate-settled-2 c = search needs
+
+settled-requires : tie.Need-settled-requires
+settled-requires c κs =
+    let b1 = c .before in
+    let b2 = b1 .before in
+    let b3 = b2 .before in
+    let b4 = b3 .before in
+    let b5 = b4 .before in
+    let b6 = b5 .before in
+    let b7 = b6 .before in
+    let g = b7 .args in
+    let all = shapes-give (g .u) (g .v) (b7 .pre) (b6 .params-by .ensures) (b5 .params-by2 .ensures) (b4 .params-by3 .ensures) in
+    ((refl, omega arith), all)
+
+decision-from-requires : tie.Need-decision-from-requires
+decision-from-requires c κs = search needs
+
+returns-2 : tie.Need-returns-2
+unfolding ofBits
+returns-2 c =
+    let b1 = c .before in
+    let b2 = b1 .before in
+    let b3 = b2 .before in
+    let b4 = b3 .before in
+    let b5 = b4 .before in
+    let b6 = b5 .before in
+    let b7 = b6 .before in
+    let b8 = b7 .before in
+    let b9 = b8 .before in
+    let b10 = b9 .before in
+    let g = b10 .args in
+    decision-is (twelve (g .u) (g .v)) (b2 .settled .ensures) (c .decision-from .ensures)
+
+pub decision-of-spec : {M : Type 1} → statement M
+decision-of-spec =
+    tie.close
+    (tie.spec
+    params-by-requires
+    params-by-requires-2
+    params-by-requires-3
+    beyond-requires
+    returns
+    slice-aggregate-settled
+    slice-aggregate-settled-2
+    settled-requires
+    decision-from-requires
+    returns-2)
