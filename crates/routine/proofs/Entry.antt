@@ -262,11 +262,11 @@ module _ (l : List Float) (d e : Float) (p q r : Params) (n : length l ≡ 12) (
   both true b h = (refl, h)
   both false b h = absurd (false≢true h)
 
-  pub beyond-kept : (room : List Float) → 12 ≤ length room → beyondBy d e p q r ≡ true → Promise l room (refusal 0) room
+  pub beyond-kept : {b : Bool} (room : List Float) → 12 ≤ length room → b ≡ beyondBy d e p q r → b ≡ true → Promise l room (refusal 0) room
   unfolding beyondBy
-  beyond-kept room m h =
-      let seen = both (clearBy d e p q r) (beyondALine (signsOf p ∷ signsOf q ∷ signsOf r ∷ [])) h in
-      keeps-beyond l room n m (by-clear l d e p q r named n (seen .0)) (rw (signs-are l, ← named .2, ← named .3, ← named .4) (seen .1))
+  beyond-kept room m hb h =
+      let seen = both (clearBy d e p q r) (beyondALine (signsOf p ∷ signsOf q ∷ signsOf r ∷ [])) (sym hb ∙ h) in
+      keeps-beyond l room n m (by-clear l d e p q r named n refl (seen .0)) (rw (signs-are l, ← named .2, ← named .3, ← named .4) (seen .1))
 
 -- ---- from the lengths on
 module _ (l room : List Float) {k : ℕ} {answer : Answer} (e : answer ≡ refusal k) where

@@ -122,8 +122,8 @@ module _ (l : List Float) (d e : Float) (p q r : Params) (given : (d ≡ dOfV l 
   pub to-front : {k : ℕ} → k ≡ frontBy l d e p q r → k ≡ frontOf l
   to-front h = h ∙ rw (given .0, given .1, given .2, given .3, given .4) (front-is l)
 
-  pub by-clear : length l ≡ 12 → clearBy d e p q r ≡ true → frontOf l ≡ 0
-  by-clear n h = front-clear l n (rw (given .0, given .1, given .2, given .3, given .4) at h)
+  pub by-clear : {b : Bool} → length l ≡ 12 → b ≡ clearBy d e p q r → b ≡ true → frontOf l ≡ 0
+  by-clear n s t = front-clear l n (rw (given .0, given .1, given .2, given .3, given .4) at (sym s ∙ t))
 
 -- a test and its answer, turned
 pub not-of : {b c r : Bool} → b ≡ c → not b ≡ r → not c ≡ r

@@ -1,6 +1,4 @@
 -- By V's sides the parameters are the rules'.
-use mathlib.Core.Path.{ap₂, _∙_}
-use Rattle.lines.specs.Parameters.{paramsBy}
 use Rattle.lines.proofs.Sides.{by-sides}
 use borrow.Author.Needs.{needs}
 use Rattle.lines.proofs.params_of.Statement.{statement}
@@ -19,7 +17,7 @@ returns : tie.Need-returns
 returns c =
     let b2 = c .before .before in
     let g = b2 .before .args in
-    c .params-by .ensures ∙ (ap₂ (λ a b. paramsBy (g .d) (g .v0) a b (g .u)) (b2 .side .ensures) (c .before .side2 .ensures) ∙ by-sides (g .d) (g .v0) (g .v1) (g .v2) (g .u))
+    by-sides (g .d) (g .v0) (g .v1) (g .v2) (g .u) (b2 .side .ensures) (c .before .side2 .ensures) (c .params-by .ensures)
 
 pub params-of-spec : {M : Type 1} → statement M
 params-of-spec = tie.close (tie.spec side-requires side-requires-2 params-by-requires returns)

@@ -1,5 +1,5 @@
 -- From two shapes come the same d, e and parameters as from their twelve values.
-use mathlib.Core.Path.{refl, sym, _∙_}
+use mathlib.Core.Path.{refl}
 use native.Mathlib.Omega.{arith}
 use lib.Ieee.{ofBits}
 use Rattle.triangles.specs.Decision.{enough}
@@ -32,7 +32,7 @@ returns c =
     let b5 = b4 .before in
     let g = b5 .args in
     let all = shapes-give (g .u) (g .v) (b5 .pre) (b4 .params-by .ensures) (b3 .params-by2 .ensures) (b2 .params-by3 .ensures) in
-    apart-is (twelve (g .u) (g .v)) (beyond-kept (twelve (g .u) (g .v)) _ _ _ _ _ refl all enough (omega arith) (sym (b1 .beyond .ensures) ∙ c .if1 .taken))
+    apart-is (twelve (g .u) (g .v)) (beyond-kept (twelve (g .u) (g .v)) _ _ _ _ _ refl all enough (omega arith) (b1 .beyond .ensures) (c .if1 .taken))
 
 slice-aggregate-settled : tie.Need-slice-aggregate-settled
 slice-aggregate-settled c = search needs

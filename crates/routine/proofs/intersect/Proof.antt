@@ -1,5 +1,4 @@
 -- Lengths first, then the early out, then the rest.
-use mathlib.Core.Path.{sym, _∙_}
 use mathlib.Core.Logic.{inl, inr}
 use denote.Ref.{now}
 use Rattle.routine.proofs.Entry.{all-given, beyond-kept, kept-as, lengths-kept}
@@ -81,7 +80,7 @@ returns-3 c =
     let g = b18 .args in
     let all = all-given (now (g .values)) (b13 .position-at .ensures) (b12 .position-at2 .ensures) (b11 .position-at3 .ensures) (b10 .position-at4 .ensures) (b9 .position-at5 .ensures) (b8 .position-at6 .ensures)
     (b7 .cross-from .ensures) (b6 .cross-from2 .ensures) (b5 .params-of .ensures) (b4 .params-of2 .ensures) (b3 .params-of3 .ensures) in
-    kept-as (now (g .values)) (now (g .room)) (c .refused3 .ensures) (beyond-kept (now (g .values)) _ _ _ _ _ (b15 .if1 .left) all (now (g .room)) (b14 .if2 .left) (sym (b2 .beyond .ensures) ∙ b1 .if3 .taken))
+    kept-as (now (g .values)) (now (g .room)) (c .refused3 .ensures) (beyond-kept (now (g .values)) _ _ _ _ _ (b15 .if1 .left) all (now (g .room)) (b14 .if2 .left) (b2 .beyond .ensures) (b1 .if3 .taken))
 
 settled-requires : tie.Need-settled-requires
 settled-requires c κs =

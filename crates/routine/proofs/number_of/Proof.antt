@@ -1,5 +1,5 @@
 -- Where the sum tells enough, no row holds.
-use mathlib.Core.Path.{sym, _∙_}
+use mathlib.Core.Path.{sym}
 use Rattle.routine.proofs.Front.{by-clear}
 use borrow.Author.Needs.{needs}
 use Rattle.routine.proofs.number_of.Statement.{statement}
@@ -14,7 +14,7 @@ returns c =
     let b2 = b1 .before in
     let b3 = b2 .before in
     let g = b3 .args in
-    sym (by-clear _ (g .d) (g .e) (g .p) (g .q) (g .r) (b3 .pre .1) (b3 .pre .0) (sym (b1 .clear .ensures) ∙ c .if1 .taken))
+    sym (by-clear _ (g .d) (g .e) (g .p) (g .q) (g .r) (b3 .pre .1) (b3 .pre .0) (b1 .clear .ensures) (c .if1 .taken))
 
 number-by-rows-requires : tie.Need-number-by-rows-requires
 number-by-rows-requires c κs = search needs

@@ -1,5 +1,4 @@
 -- The rows to the parameters first, then the rest.
-use mathlib.Core.Path.{sym, _∙_}
 use denote.Ref.{now}
 use Rattle.routine.proofs.Entry.{front-kept}
 use borrow.Author.Needs.{needs}
