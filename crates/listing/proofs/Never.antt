@@ -16,6 +16,7 @@ use Rattle.centimetres.proofs.Never.{always-decided}
 use Rattle.centimetres.proofs.Passed.{in-good-files}
 use Rattle.listing.specs.Pairs.{placeIn, coordinatesAt, decisionAt}
 use Rattle.listing.specs.Demand.{NoneRefused}
+use Rattle.listing.proofs.Turns.{map-append}
 
 module _ (file : List ℕ) (good : Layout file) where
   -- triangle a of recording i, in its part
@@ -38,10 +39,6 @@ module _ (file : List ℕ) (good : Layout file) where
   unfolding triangleFrom coordinatesAt
   numbers i a h k =
       rw (first i a h k, number i a 4 h k (omega arith), number i a 8 h k (omega arith), number i a 12 h k (omega arith), number i a 16 h k (omega arith), number i a 20 h k (omega arith)) refl
-
-map-append : {A B : Type 0} (f : A → B) (xs ys : List A) → map f (xs ++ ys) ≡ map f xs ++ map f ys
-map-append f [] ys = refl
-map-append f (x ∷ xs) ys = ap (f x ∷_) (map-append f xs ys)
 
 pub none-refused : NoneRefused
 none-refused file good i j a b hi hj ha hb k e =

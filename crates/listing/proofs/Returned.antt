@@ -29,7 +29,7 @@ module _ (file room : List ℕ) where
   unfolding listOf
   by-file h = file-first Whole file (refused room) _ h
 
-  past-file : verdict file .number ≡ 0 → listOf file room ≡ cond (ltb (length room) (length (listText file))) (refused room tooShort) (answered room (listText file) (length (leaks file)))
+  pub past-file : verdict file .number ≡ 0 → listOf file room ≡ cond (ltb (length room) (length (listText file))) (refused room tooShort) (answered room (listText file) (length (leaks file)))
   unfolding listOf
   past-file z = not-refused file (refused room) _ z
 

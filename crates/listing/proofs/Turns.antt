@@ -98,6 +98,20 @@ module _ {A B : Type 0} (f : A → List B) where
   each-append [] ys = refl
   each-append (x ∷ xs) ys = ap (λ r. f x ++ r) (each-append xs ys) ∙ sym (append-assoc (f x) (each f xs) (each f ys))
 
+-- ---- one after the other
+pub map-append : {A B : Type 0} (f : A → B) (xs ys : List A) → map f (xs ++ ys) ≡ map f xs ++ map f ys
+map-append f [] ys = refl
+map-append f (x ∷ xs) ys = ap (f x ∷_) (map-append f xs ys)
+
+pub folded-append : {A B : Type 0} (add : B → A → B) (so-far : B) (xs ys : List A) → folded add so-far (xs ++ ys) ≡ folded add (folded add so-far xs) ys
+unfolding folded
+folded-append add so-far [] ys = refl
+folded-append add so-far (x ∷ xs) ys = folded-append add (add so-far x) xs ys
+
+pub each-one : {A B : Type 0} (f : A → List B) (x : A) → each f (x ∷ []) ≡ f x
+unfolding each
+each-one f x = append-nil (f x)
+
 -- ---- by place
 pub member-at : {A : Type 0} (xs : List A) (d : A) (k : ℕ) → k < length xs → List·Memᴰ (getD xs k d) xs
 member-at [] d k h = absurd (omega (arith, h))

@@ -1,0 +1,63 @@
+-- Turns of the loops that count: one more decision, one more row. Assumes nothing.
+use Prim.Native.Nat.{ℕ, suc, _+_, _<_, _≤_}
+use mathlib.Core.Path.{_≡_, refl, sym, ap, ap₂, subst, _∙_}
+use mathlib.Core.List.{List, [], _∷_, _++_, map}
+use native.Mathlib.Omega.{arith}
+use native.Mathlib.Numerals.{add-one}
+use lib.Ieee.{Float}
+use Rattle.triangles.specs.declared.Decision.{Decision}
+use Rattle.triangles.specs.Decision.{decisionOf}
+use Rattle.routine.specs.declared.Shape.{Shape}
+use Rattle.routine.specs.Shapes.{twelve}
+use Rattle.listing.specs.declared.Tally.{Tally}
+use Rattle.listing.specs.Turns.{upTo, each, folded}
+use Rattle.listing.specs.Pairs.{noneYet, tallied}
+use Rattle.listing.proofs.Turns.{map-append, folded-append, each-append, each-one}
+use Rattle.leaklist.specs.Code.{shapeIn, decisionIn, rowIn, tallyIn}
+
+one-more : (n : ℕ) → upTo (n + 1) ≡ upTo n ++ (n ∷ [])
+one-more n = ap upTo (add-one n) ∙ (unfold upTo in refl)
+
+-- a tally by its count
+unfoldable pub tallyBy : ℕ → Tally
+tallyBy n = record { meeting = n }
+
+module _ (table : List Float) where
+  pub row-none : (t : Tally) (i j : ℕ) → t ≡ folded tallied t (rowIn table i j 0)
+  unfolding rowIn upTo folded
+  row-none t i j = refl
+
+  row-snoc : (i j b : ℕ) → rowIn table i j (b + 1) ≡ rowIn table i j b ++ (decisionIn table i (j + b) ∷ [])
+  unfolding rowIn
+  row-snoc i j b = ap (map (λ c. decisionIn table i (j + c))) (one-more b) ∙ map-append (λ c. decisionIn table i (j + c)) (upTo b) (b ∷ [])
+
+  folded-one : (t : Tally) (d : Decision) → folded tallied t (d ∷ []) ≡ tallied t d
+  unfolding folded
+  folded-one t d = refl
+
+  in-table : (i j : ℕ) → decisionOf (twelve (shapeIn table i) (shapeIn table j)) ≡ decisionIn table i j
+  unfolding decisionIn
+  in-table i j = refl
+
+  -- a decision of two shapes of the table, counted
+  pub row-turn : (t : Tally) (i j b : ℕ) {s r : Tally} {d : Decision} {u v : Shape} → u ≡ shapeIn table i → v ≡ shapeIn table (j + b) → d ≡ decisionOf (twelve u v) → s ≡ folded tallied t (rowIn table i j b) → r ≡ tallied s d → r ≡ folded tallied t (rowIn table i j (b + 1))
+  row-turn t i j b hu hv hd hs hr =
+      hr
+      ∙ (ap₂ tallied hs (hd ∙ (ap₂ (λ x y. decisionOf (twelve x y)) hu hv ∙ in-table i (j + b)))
+      ∙ (sym (folded-one (folded tallied t (rowIn table i j b)) (decisionIn table i (j + b)))
+      ∙ (sym (folded-append tallied t (rowIn table i j b) (decisionIn table i (j + b) ∷ [])) ∙ ap (folded tallied t) (sym (row-snoc i j b)))))
+
+  pub tally-none : (i j n : ℕ) → noneYet ≡ tallyIn table i 0 j n
+  unfolding tallyIn upTo each folded
+  tally-none i j n = refl
+
+  pub tally-turn : (i j n a : ℕ) {s r : Tally} → s ≡ tallyIn table i a j n → r ≡ folded tallied s (rowIn table (i + a) j n) → r ≡ tallyIn table i (a + 1) j n
+  unfolding tallyIn
+  tally-turn i j n a {s} hs hr =
+      hr
+      ∙ (ap (λ t. folded tallied t (rowIn table (i + a) j n)) hs
+      ∙ (sym (folded-append tallied noneYet (each rows (upTo a)) (rowIn table (i + a) j n))
+      ∙ ap (folded tallied noneYet) (sym (ap (each rows) (one-more a) ∙ (each-append rows (upTo a) (a ∷ []) ∙ ap (λ r. each rows (upTo a) ++ r) (each-one rows a))))))
+    where
+      rows : ℕ → List Decision
+      rows c = rowIn table (i + c) j n

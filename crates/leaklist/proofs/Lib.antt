@@ -1,0 +1,5 @@
+pub mod Table
+pub mod Counted
+pub mod Lines
+pub mod Gathered
+pub mod Written

@@ -1,0 +1,108 @@
+-- The table of prepared triangles: what is put there is found there, and decisions from it are those of the file. Assumes nothing.
+use Prim.Native.Nat.{ℕ, zero, suc, _+_, _*_, _/_, _<_, _≤_}
+use mathlib.Core.Path.{_≡_, refl, sym, ap, ap₂, subst, _∙_}
+use mathlib.Core.Bool.{Bool, true, false}
+use mathlib.Core.List.{List, [], _∷_, _++_, map}
+use native.Mathlib.Omega.{arith}
+use native.Mathlib.Nat.{add-zero}
+use lib.Dec.{ltb}
+use borrow.Author.Tests.{ltb-true, ltb-false}
+use lib.ListN.{length, getD, take, drop, set, length-set, length-append, List·getD-append}
+use lib.Seq.{sets, sets-eq, getD-set-same, getD-set-other, length-sets, length-take-le, getD-take, getD-append-add}
+use lib.Ieee.{Float, nan}
+use Rattle.routine.specs.declared.Shape.{Shape}
+use Rattle.routine.specs.Shapes.{shapeOf, Made, twelve}
+use Rattle.layout.specs.Recordings.{f64At}
+use Rattle.leaklist.specs.Code.{elevenOf, shapeIn, shapeFrom, MadeFrom, Prepared, decisionIn}
+
+-- eleven stores, one after the other, are a run of stores
+pub eleven-sets : (l : List Float) (i : ℕ) (s : Shape) →
+    set (set (set (set (set (set (set (set (set (set (set l i (s .x0)) (i + 1) (s .y0)) (i + 2) (s .x1)) (i + 3) (s .y1)) (i + 4) (s .x2)) (i + 5) (s .y2)) (i + 6) (s .ax)) (i + 7) (s .ay)) (i + 8) (s .bx)) (i + 9) (s .by)) (i + 10) (s .cross)
+    ≡ sets l i (elevenOf s)
+eleven-sets l i s =
+    let e1 : i + 1 ≡ suc i = omega arith in
+    let e2 : i + 2 ≡ suc (suc i) = omega arith in
+    let e3 : i + 3 ≡ suc (suc (suc i)) = omega arith in
+    let e4 : i + 4 ≡ suc (suc (suc (suc i))) = omega arith in
+    let e5 : i + 5 ≡ suc (suc (suc (suc (suc i)))) = omega arith in
+    let e6 : i + 6 ≡ suc (suc (suc (suc (suc (suc i))))) = omega arith in
+    let e7 : i + 7 ≡ suc (suc (suc (suc (suc (suc (suc i)))))) = omega arith in
+    let e8 : i + 8 ≡ suc (suc (suc (suc (suc (suc (suc (suc i))))))) = omega arith in
+    let e9 : i + 9 ≡ suc (suc (suc (suc (suc (suc (suc (suc (suc i)))))))) = omega arith in
+    let e10 : i + 10 ≡ suc (suc (suc (suc (suc (suc (suc (suc (suc (suc i))))))))) = omega arith in
+    rw (e1, e2, e3, e4, e5, e6, e7, e8, e9, e10) refl
+
+-- ---- a run of stores, looked at from outside and from inside
+module _ {A : Type 0} (l : List A) (i : ℕ) (vs : List A) (d : A) (fits : i + length vs ≤ length l) where
+  front : length (take i l) ≡ i
+  front = length-take-le i l (omega (arith, fits))
+
+  pub before-sets : (k : ℕ) → k < i → getD (sets l i vs) k d ≡ getD l k d
+  before-sets k h =
+      ap (λ x. getD x k d) (sets-eq vs l i fits)
+      ∙ (List·getD-append (take i l ++ vs) (drop (i + length vs) l) d k (omega (arith, h, length-append (take i l) vs, front))
+      ∙ (List·getD-append (take i l) vs d k (omega (arith, h, front)) ∙ getD-take i l k d h))
+
+  pub inside-sets : (k : ℕ) → k < length vs → getD (sets l i vs) (i + k) d ≡ getD vs k d
+  inside-sets k h =
+      ap (λ x. getD x (i + k) d) (sets-eq vs l i fits)
+      ∙ (List·getD-append (take i l ++ vs) (drop (i + length vs) l) d (i + k) (omega (arith, h, length-append (take i l) vs, front))
+      ∙ (ap (λ n. getD (take i l ++ vs) (n + k) d) (sym front) ∙ getD-append-add (take i l) vs k d))
+
+-- ---- shapes in the table
+shapeBy : Float → Float → Float → Float → Float → Float → Float → Float → Float → Float → Float → Shape
+shapeBy f0 f1 f2 f3 f4 f5 f6 f7 f8 f9 f10 = record { x0 = f0; y0 = f1; x1 = f2; y1 = f3; x2 = f4; y2 = f5; ax = f6; ay = f7; bx = f8; by = f9; cross = f10 }
+
+fields : {f0 f1 f2 f3 f4 f5 f6 f7 f8 f9 f10 g0 g1 g2 g3 g4 g5 g6 g7 g8 g9 g10 : Float} → f0 ≡ g0 → f1 ≡ g1 → f2 ≡ g2 → f3 ≡ g3 → f4 ≡ g4 → f5 ≡ g5 → f6 ≡ g6 → f7 ≡ g7 → f8 ≡ g8 → f9 ≡ g9 → f10 ≡ g10 → shapeBy f0 f1 f2 f3 f4 f5 f6 f7 f8 f9 f10 ≡ shapeBy g0 g1 g2 g3 g4 g5 g6 g7 g8 g9 g10
+fields p0 p1 p2 p3 p4 p5 p6 p7 p8 p9 p10 = rw (p0, p1, p2, p3, p4, p5, p6, p7, p8, p9, p10) refl
+
+shape-same : {a b : Shape} → a .x0 ≡ b .x0 → a .y0 ≡ b .y0 → a .x1 ≡ b .x1 → a .y1 ≡ b .y1 → a .x2 ≡ b .x2 → a .y2 ≡ b .y2 → a .ax ≡ b .ax → a .ay ≡ b .ay → a .bx ≡ b .bx → a .by ≡ b .by → a .cross ≡ b .cross → a ≡ b
+unfolding shapeBy
+shape-same p0 p1 p2 p3 p4 p5 p6 p7 p8 p9 p10 = fields p0 p1 p2 p3 p4 p5 p6 p7 p8 p9 p10
+
+module _ (table : List Float) (n : ℕ) (s : Shape) (fits : 11 * n + 11 ≤ length table) where
+  abbrev after : List Float
+  after = sets table (11 * n) (elevenOf s)
+
+  -- the shape that was put
+  pub put-there : shapeIn after n ≡ s
+  put-there =
+      shape-same
+      (ap (λ k. getD after k nan) (sym (add-zero (11 * n))) ∙ there 0 (omega arith))
+      (there 1 (omega arith)) (there 2 (omega arith)) (there 3 (omega arith)) (there 4 (omega arith)) (there 5 (omega arith)) (there 6 (omega arith)) (there 7 (omega arith)) (there 8 (omega arith)) (there 9 (omega arith)) (there 10 (omega arith))
+    where
+      there : (c : ℕ) → c < 11 → getD (sets table (11 * n) (elevenOf s)) (11 * n + c) nan ≡ getD (elevenOf s) c nan
+      there c h = inside-sets table (11 * n) (elevenOf s) nan fits c h
+
+  -- and those before it
+  pub put-after : (k : ℕ) → k < n → shapeIn after k ≡ shapeIn table k
+  put-after k h =
+      shape-same (kept 0 (11 * k) (omega (arith, h))) (kept 1 (11 * k + 1) (omega (arith, h))) (kept 2 (11 * k + 2) (omega (arith, h))) (kept 3 (11 * k + 3) (omega (arith, h))) (kept 4 (11 * k + 4) (omega (arith, h))) (kept 5 (11 * k + 5) (omega (arith, h))) (kept 6 (11 * k + 6) (omega (arith, h))) (kept 7 (11 * k + 7) (omega (arith, h))) (kept 8 (11 * k + 8) (omega (arith, h))) (kept 9 (11 * k + 9) (omega (arith, h))) (kept 10 (11 * k + 10) (omega (arith, h)))
+    where
+      kept : (c p : ℕ) → p < 11 * n → getD (sets table (11 * n) (elevenOf s)) p nan ≡ getD table p nan
+      kept c p g = before-sets table (11 * n) (elevenOf s) nan fits p g
+
+  -- one more triangle of the file
+  pub prepared-turn : (file : List ℕ) → Prepared file n table → s ≡ shapeFrom file (24 * n) → Prepared file (n + 1) after
+  prepared-turn file h e k g = go (ltb k n) refl
+    where
+      go : (b : Bool) → ltb k n ≡ b → shapeIn after k ≡ shapeFrom file (24 * k)
+      go true l = put-after k (ltb-true k n l) ∙ h k (ltb-true k n l)
+      go false l = last (omega (arith, g, ltb-false k n l))
+        where
+          last : k ≡ n → shapeIn after k ≡ shapeFrom file (24 * k)
+          last q = ap (shapeIn after) q ∙ (put-there ∙ (e ∙ ap (λ i. shapeFrom file (24 * i)) (sym q)))
+
+-- ---- as the code comes to it
+pub none-prepared : (file : List ℕ) (table : List Float) → Prepared file 0 table
+none-prepared file table k h = absurd (omega (arith, h))
+
+pub prepared-as : (file : List ℕ) (n : ℕ) {table table' : List Float} → table' ≡ table → Prepared file n table → Prepared file n table'
+prepared-as file n e h = subst (Prepared file n) (sym e) h
+
+pub all-prepared : (file : List ℕ) (table : List Float) {m n : ℕ} → m ≡ n → Prepared file m table → Prepared file n table
+all-prepared file table e h = subst (λ k. Prepared file k table) e h
+
+pub shape-read : (file : List ℕ) (at : ℕ) {a b c d e f : Float} {s : Shape} → a ≡ f64At file at → b ≡ f64At file (at + 4) → c ≡ f64At file (at + 8) → d ≡ f64At file (at + 12) → e ≡ f64At file (at + 16) → f ≡ f64At file (at + 20) → s ≡ shapeOf a b c d e f → s ≡ shapeFrom file at
+unfolding shapeFrom
+shape-read file at p q r s t u h = h ∙ rw (p, q, r, s, t, u) refl

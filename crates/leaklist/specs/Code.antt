@@ -1,0 +1,134 @@
+-- The steps of the writer: prepared triangles, counts from them, leaks as triples of numbers, and their lines. That they come to the list of the rules is the writer's promise. Definitions only.
+use Prim.Native.Nat.{ℕ, zero, suc, _+_, _*_, _<_}
+use mathlib.Core.Path.{_≡_}
+use mathlib.Core.Bool.{cond}
+use mathlib.Core.List.{List, [], _∷_, _++_, map}
+use lib.Dec.{ltb, eqb}
+use lib.ListN.{length, getD}
+use lib.Ieee.{Float, nan}
+use Rattle.triangles.specs.declared.Decision.{Decision}
+use Rattle.triangles.specs.Decision.{decisionOf}
+use Rattle.routine.specs.declared.Shape.{Shape}
+use Rattle.routine.specs.Shapes.{shapeOf, Made, twelve}
+use lib.Seq.{sets}
+use Rattle.layout.specs.Parts.{countOf, entryAt, trianglesOf}
+use Rattle.layout.specs.Layout.{Layout}
+use Rattle.layout.specs.Recordings.{f64At}
+use Rattle.layout.specs.Verdict.{said}
+use Rattle.listing.specs.declared.Tally.{Tally}
+use Rattle.listing.specs.Turns.{upTo, each, folded}
+use Rattle.listing.specs.Pairs.{isTest, isTraining, tallied, noneYet}
+use Rattle.listing.specs.Leaks.{Leak, isLeak, leakOf}
+use Rattle.listing.specs.declared.Listed.{Listed}
+use Rattle.listing.specs.Words.{firstLine, leakLine, leakLines, listText, refusedLine}
+use Rattle.listing.specs.Listing.{Whole, refused, tooShort, answered, listOf}
+
+-- ---- a prepared triangle in the table, and the same from the file
+abbrev pub elevenOf : Shape → List Float
+elevenOf s = s .x0 ∷ s .y0 ∷ s .x1 ∷ s .y1 ∷ s .x2 ∷ s .y2 ∷ s .ax ∷ s .ay ∷ s .bx ∷ s .by ∷ s .cross ∷ []
+
+abbrev pub shapeIn : List Float → ℕ → Shape
+shapeIn table k = record {
+  x0 = getD table (11 * k) nan;
+  y0 = getD table (11 * k + 1) nan;
+  x1 = getD table (11 * k + 2) nan;
+  y1 = getD table (11 * k + 3) nan;
+  x2 = getD table (11 * k + 4) nan;
+  y2 = getD table (11 * k + 5) nan;
+  ax = getD table (11 * k + 6) nan;
+  ay = getD table (11 * k + 7) nan;
+  bx = getD table (11 * k + 8) nan;
+  by = getD table (11 * k + 9) nan;
+  cross = getD table (11 * k + 10) nan;
+}
+
+unfoldable pub shapeFrom : List ℕ → ℕ → Shape
+shapeFrom file at = shapeOf (f64At file at) (f64At file (at + 4)) (f64At file (at + 8)) (f64At file (at + 12)) (f64At file (at + 16)) (f64At file (at + 20))
+
+-- n triangles of the table, from j on, are as they are prepared
+abbrev pub MadeFrom : List Float → ℕ → ℕ → Type 0
+MadeFrom table j n = (b : ℕ) → b < n → Made (shapeIn table (j + b))
+
+-- the first n triangles of the file stand in the table
+abbrev pub Prepared : List ℕ → ℕ → List Float → Type 0
+Prepared file n table = (k : ℕ) → k < n → shapeIn table k ≡ shapeFrom file (24 * k)
+
+-- ---- decisions and counts from the table: m test triangles from i on, n training triangles from j on
+unfoldable pub decisionIn : List Float → ℕ → ℕ → Decision
+decisionIn table i j = decisionOf (twelve (shapeIn table i) (shapeIn table j))
+
+unfoldable pub rowIn : List Float → ℕ → ℕ → ℕ → List Decision
+unfolding decisionIn
+rowIn table i j n = map (λ b. decisionIn table i (j + b)) (upTo n)
+
+unfoldable pub tallyIn : List Float → ℕ → ℕ → ℕ → ℕ → Tally
+unfolding rowIn
+tallyIn table i m j n = folded tallied noneYet (each (λ a. rowIn table (i + a) j n) (upTo m))
+
+-- ---- what the gathering of leaks goes by: a good file, all of its triangles in the table
+pub record Gathering (file : List ℕ) (table : List Float) : Type 0 where
+  pub good : Layout file
+  pub size : length table ≡ 30030
+  pub prepared : Prepared file (trianglesOf file) table
+
+-- ---- leaks as triples of numbers
+abbrev pub leakAt : List ℕ → ℕ → Leak
+leakAt found k = record { test = getD found (3 * k) 0; train = getD found (3 * k + 1) 0; pairs = getD found (3 * k + 2) 0 }
+
+unfoldable pub leaksIn : List ℕ → ℕ → List Leak
+leaksIn found zero = []
+leaksIn found (suc k) = leaksIn found k ++ (leakAt found k ∷ [])
+
+-- two ids and N as a leak, where N is not 0
+abbrev pub leakOn : ℕ → ℕ → ℕ → List Leak
+leakOn test train n = cond (ltb 0 n) (record { test = test; train = train; pairs = n } ∷ []) []
+
+module _ (file : List ℕ) where
+  -- the leak of the recordings i, a test recording, and j, if there is one
+  unfoldable pub itemOf : ℕ → ℕ → List Leak
+  itemOf i j = cond (isTraining (entryAt file j)) (cond (isLeak file (i, j)) (leakOf file (i, j) ∷ []) []) []
+
+  -- those of i and the first n recordings
+  unfoldable pub rowTo : ℕ → ℕ → List Leak
+  unfolding itemOf
+  rowTo i zero = []
+  rowTo i (suc n) = rowTo i n ++ itemOf i n
+
+  -- those of recording i, if it is a test recording, and all
+  unfoldable pub testOf : ℕ → List Leak
+  unfolding rowTo
+  testOf i = cond (isTest (entryAt file i)) (rowTo i (countOf file)) []
+
+  -- those of the first n recordings and all
+  unfoldable pub listTo : ℕ → List Leak
+  unfolding testOf
+  listTo zero = []
+  listTo (suc n) = listTo n ++ testOf n
+
+-- ---- the line of three numbers, and those of the first k triples
+abbrev pub lineOf : ℕ → ℕ → ℕ → List ℕ
+lineOf test train n = leakLine (record { test = test; train = train; pairs = n })
+
+unfoldable pub linesIn : List ℕ → ℕ → List ℕ
+linesIn found zero = []
+linesIn found (suc k) = linesIn found k ++ leakLine (leakAt found k)
+
+-- ---- a text that fits, in the room from a place on, and the place behind it
+pub record Laid (room : List ℕ) (at : ℕ) (text : List ℕ) (after : List ℕ) (next : ℕ) : Type 0 where
+  pub after-is : after ≡ sets room at text
+  pub next-is : next ≡ at + length text
+
+-- the list of these leaks in the room, or refusal 7
+abbrev pub textOf : List Leak → List ℕ
+textOf ls = firstLine (length ls) ++ leakLines ls
+
+unfoldable pub wholeOf : List Leak → List ℕ → Whole
+wholeOf ls room = cond (ltb (length room) (length (textOf ls))) (refused room tooShort) (answered room (textOf ls) (length ls))
+
+pub record WrittenAs (ls : List Leak) (room : List ℕ) (result : Listed) (after : List ℕ) : Type 0 where
+  pub result-is : result ≡ wholeOf ls room .result
+  pub after-is : after ≡ wholeOf ls room .room
+
+-- ---- what is told of a file where the room is this one: the list, or how it is refused
+unfoldable pub toldOf : List ℕ → List ℕ → List ℕ
+toldOf file room = let r = listOf file room .result in cond (eqb (r .number) 0) (listText file) (refusedLine (said (r .number) (r .place)))
