@@ -4,6 +4,7 @@ use mathlib.Core.Path.{_≡_, refl, sym, ap, ap₂, subst, _∙_}
 use mathlib.Core.Bool.{Bool, true, false, cond}
 use mathlib.Core.List.{List, [], _∷_, _++_, append-assoc, append-nil}
 use native.Mathlib.Omega.{arith}
+use native.Mathlib.Nat.{zero-add}
 use native.Mathlib.Numerals.{add-one}
 use lib.Dec.{ltb}
 use borrow.Author.Tests.{ltb-true, ltb-false, lt-ltb, le-ltb}
@@ -11,9 +12,10 @@ use lib.ListN.{length, getD, set, length-append, length-set}
 use lib.Seq.{sets, getD-set-same, getD-set-other, length-sets}
 use Rattle.text.specs.Decimal.{decimal}
 use Rattle.text.specs.Room.{Put}
-use Rattle.text.proofs.Laws.{sets-append, laid-sets}
+use Rattle.text.proofs.Laws.{sets-append, laid-sets, put-all}
+use Rattle.layout.specs.Verdict.{said}
 use Rattle.listing.specs.Leaks.{Leak}
-use Rattle.listing.specs.Words.{testWord, trainWord, pairsWord, leaksWord, feed, firstLine, leakLine, leakLines}
+use Rattle.listing.specs.Words.{testWord, trainWord, pairsWord, leaksWord, refusedWord, atWord, feed, firstLine, leakLine, refusedLine}
 use Rattle.leaklist.specs.Code.{leakAt, leaksIn, leakOn, lineOf, linesIn, Laid}
 
 -- ---- triples
@@ -168,3 +170,17 @@ line-fits l c k p h fits =
     let grow = lines-grow l (c + 1) k (omega (arith, h)) in
     let next = lines-turn l c refl refl in
     omega (arith, fits, grow, next, laid-length p, p .next-is)
+
+-- ---- the line of a refusal
+pub refused-length : (n p : ℕ) → length (refusedLine (said n p)) ≡ 13 + length (decimal n) + length (decimal p)
+unfolding refusedLine
+refused-length n p = simp length-append (omega arith)
+
+pub refused-is : (n p : ℕ) → ((refusedWord ++ decimal n) ++ (atWord ++ decimal p)) ++ feed ≡ refusedLine (said n p)
+unfolding refusedLine
+refused-is n p = ap (λ y. y ++ feed) (sym (append-assoc (refusedWord ++ decimal n) atWord (decimal p)))
+
+-- a text that fits and is laid from the front on is put there
+pub put-laid : {room text after : List ℕ} {next : ℕ} → length text ≤ length room → Laid room 0 text after next → Put room 0 text after next
+put-laid {room} {text} {after} {next} h l =
+    subst (Put room 0 text after) (sym (l .next-is)) (put-all room text after 0 (length text) refl (omega (arith, h)) (l .after-is))

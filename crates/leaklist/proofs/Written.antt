@@ -7,7 +7,7 @@ use native.Mathlib.Omega.{arith}
 use native.Mathlib.Numerals.{add-one}
 use native.Mathlib.Nat.{zero-add}
 use lib.Dec.{ltb}
-use borrow.Author.Tests.{lt-ltb, le-ltb}
+use borrow.Author.Tests.{lt-ltb, le-ltb, le-leb, eq-eqb, ne-eqb}
 use lib.ListN.{length, drop, length-append}
 use lib.Seq.{sets, sets-eq}
 use Rattle.text.specs.Decimal.{decimal}
@@ -18,12 +18,13 @@ use Rattle.layout.proofs.Returned.{is-good}
 use Rattle.listing.specs.declared.Listed.{Listed}
 use Rattle.listing.specs.Turns.{each}
 use Rattle.listing.specs.Leaks.{Leak, leaks}
-use Rattle.listing.specs.Words.{firstLine, leakLine, leakLines, listText}
+use Rattle.listing.specs.Words.{firstLine, leakLine, leakLines, listText, refusedLine}
 use Rattle.listing.specs.Listing.{Whole, refused, tooShort, written, answered, listOf}
 use Rattle.listing.specs.Promise.{Promise}
 use Rattle.listing.proofs.Turns.{each-append, each-one}
-use Rattle.listing.proofs.Returned.{by-file, past-file}
-use Rattle.leaklist.specs.Code.{leakAt, leaksIn, linesIn, Laid, textOf, wholeOf, WrittenAs}
+use Rattle.listing.proofs.Returned.{by-file, past-file, by-list, returned-one}
+use Rattle.text.specs.Room.{laid, behind, Put}
+use Rattle.leaklist.specs.Code.{leakAt, leaksIn, linesIn, Laid, textOf, wholeOf, WrittenAs, toldOf}
 use Rattle.leaklist.proofs.Lines.{first-length, laid-two, laid-as}
 
 -- ---- the lines of triples are the lines of leaks
@@ -84,3 +85,34 @@ pub keeps-refusal : (file room : List ℕ) {v : Verdict} {r : Listed} → v ≡ 
 keeps-refusal file room {v} h n p =
     let s = by-file file room (λ z. n (ap (λ x. x .number) h ∙ z)) in
     record { result-is = p ∙ (ap (λ x. refused [] x .result) h ∙ ap (λ w. w .result) (sym s)); after-is = ap (λ w. w .room) (sym s) }
+
+-- ---- what is told of a file
+told-no : (file room : List ℕ) {a : Listed} → a ≡ listOf file room .result → (a .number ≡ 0 → ⊥) → refusedLine (said (a .number) (a .place)) ≡ toldOf file room
+unfolding toldOf
+told-no file room h n = ap (λ r. refusedLine (said (r .number) (r .place))) h ∙ sym (rw (ne-eqb (listOf file room .result .number) 0 (λ z. n (ap (λ r. r .number) h ∙ z))) refl)
+
+told-yes : (file room : List ℕ) → listOf file room .result .number ≡ 0 → listText file ≡ toldOf file room
+unfolding toldOf
+told-yes file room z = sym (rw (eq-eqb (listOf file room .result .number) 0 z) refl)
+
+pub told-refused : (file room : List ℕ) {a : Listed} {mid after : List ℕ} {r : ℕ} → Promise file room a mid → (a .number ≡ 0 → ⊥) → Put mid 0 (refusedLine (said (a .number) (a .place))) after r → Put room 0 (toldOf file room) after r
+told-refused file room {a} {mid} {after} {r} p n q =
+    let same = returned-one file room a mid p .zeros n .2 in
+    subst (λ t. Put room 0 t after r) (told-no file room (p .result-is) n) (subst (λ m. Put m 0 (refusedLine (said (a .number) (a .place))) after r) same q)
+
+put-front : (room text : List ℕ) → length text ≤ length room → Put room 0 text (written text room) (length text)
+unfolding laid behind
+put-front room text h =
+    let yes = le-leb (0 + length text) (length room) (omega (arith, h)) in
+    record { after-is = sym (rw yes (ap (λ m. text ++ drop m room) (zero-add (length text)))); next-is = sym (rw yes (zero-add (length text))) }
+
+pub told-list : (file room : List ℕ) {a : Listed} {after : List ℕ} → Promise file room a after → a .number ≡ 0 → Put room 0 (toldOf file room) after (a .length)
+told-list file room {a} {after} p z =
+    let d = returned-one file room a after p in
+    let fit = d .answered .0 z in
+    let w = by-list file room (is-good file (fit .0)) (fit .1) in
+    let front = put-front room (listText file) (fit .1) in
+    let after-is : after ≡ written (listText file) room = p .after-is ∙ ap (λ x. x .room) w in
+    let length-is : a .length ≡ length (listText file) = ap (λ r. r .length) (p .result-is) ∙ ap (λ x. x .result .length) w in
+    subst (λ t. Put room 0 t after (a .length)) (told-yes file room (ap (λ r. r .number) (sym (p .result-is)) ∙ z))
+    (subst (λ m. Put room 0 (listText file) m (a .length)) (sym after-is) (subst (Put room 0 (listText file) (written (listText file) room)) (sym length-is) front))

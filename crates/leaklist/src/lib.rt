@@ -20,7 +20,7 @@ ghost use Rattle.listing.specs.Leaks.{pairsMeeting};
 ghost use Rattle.listing.specs.Words.{firstLine, leakLine, refusedLine};
 ghost use Rattle.listing.specs.Listing.{refused as refusedAs};
 ghost use Rattle.listing.specs.Promise.{Promise};
-ghost use Rattle.leaklist.specs.Code.{elevenOf, shapeIn, MadeFrom, Prepared, rowIn, tallyIn, Gathering, leakOn, leaksIn, itemOf, rowTo, testOf, listTo, lineOf, linesIn, Laid, WrittenAs};
+ghost use Rattle.leaklist.specs.Code.{elevenOf, shapeIn, MadeFrom, Prepared, rowIn, tallyIn, Gathering, leakOn, leaksIn, itemOf, rowTo, testOf, listTo, lineOf, linesIn, Laid, WrittenAs, toldOf};
 
 // ---- triangles, prepared: eleven values each
 
@@ -377,4 +377,30 @@ pub fn leaks(file: &[u8], room: &mut [u8]) -> listing::Listed
         return refused(v.number, v.place);
     }
     listed(file, room)
+}
+
+// ---- what the program says
+
+// The line that says how a file is refused.
+fn put_refusal(room: &mut [u8], number: u32, place: u32) -> usize
+    ensures { λ r. ⌜ Put (now (room .entry)) 0 (refusedLine (said number place)) (now (room .exit)) r ⌝ }
+{
+    let size = 13 + text::width(number) + text::width(place);
+    if room.len() < size {
+        return 0;
+    }
+    let p = put_field(room, 0, b"refused ", number);
+    let q = put_field(room, p, b" at ", place);
+    text::put_bytes(room, q, b"\n")
+}
+
+// What is to be said of a file's bytes, at the front of the room, and its length: the list, or the line of its refusal. Where there is no room for either, nothing is put, and the length is 0.
+pub fn told(file: &[u8], room: &mut [u8]) -> usize
+    ensures { λ r. ⌜ Put (now (room .entry)) 0 (toldOf (now (file .entry)) (now (room .entry))) (now (room .exit)) r ⌝ }
+{
+    let a = leaks(file, room);
+    if a.number != 0 {
+        return put_refusal(room, a.number, a.place);
+    }
+    a.length
 }

@@ -1,6 +1,7 @@
 // The functions that programs in other languages call; include/meskelow.h declares them.
 ghost use Rattle.triangles.specs.Promise.{Promise};
 ghost use Rattle.layout.specs.Promise.{Checked, Recorded};
+ghost use Rattle.listing.specs.Promise.{Promise as ListPromise};
 
 // Two triangles, U0x, U0y, .. V2y: the answer, with the ring's corners at the front of the room, or a refusal, with the room as it was.
 #[no_mangle]
@@ -24,4 +25,12 @@ pub extern "C" fn meskelow_recording(file: &[u8], k: usize) -> layout::Recording
     ensures { λ r. ⌜ Recorded (now (file .entry)) k r ⌝ }
 {
     footprint::recording(file, k)
+}
+
+// The leak list of a file's bytes: its length and the number of its leaks, with the list at the front of the room, or a refusal's number and place with zeros, with the room as it was.
+#[no_mangle]
+pub extern "C" fn meskelow_leaks(file: &[u8], room: &mut [u8]) -> listing::Listed
+    ensures { λ r. ⌜ ListPromise (now (file .entry)) (now (room .entry)) r (now (room .exit)) ⌝ }
+{
+    leaklist::leaks(file, room)
 }
