@@ -385,8 +385,8 @@ pub fn leaks(file: &[u8], room: &mut [u8]) -> listing::Listed
 fn put_refusal(room: &mut [u8], number: u32, place: u32) -> usize
     ensures { λ r. ⌜ Put (now (room .entry)) 0 (refusedLine (said number place)) (now (room .exit)) r ⌝ }
 {
-    let size = 13 + text::width(number) + text::width(place);
-    if room.len() < size {
+    let whole = 13 + text::width(number) + text::width(place);
+    if room.len() < whole {
         return 0;
     }
     let p = put_field(room, 0, b"refused ", number);

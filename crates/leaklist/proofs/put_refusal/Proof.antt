@@ -13,14 +13,14 @@ use Rattle.leaklist.proofs.put_refusal.Tie as tie
 width-requires : tie.Need-width-requires
 width-requires c κs = search needs
 
-add-size : tie.Need-add-size
-add-size c = search needs
+add-whole : tie.Need-add-whole
+add-whole c = search needs
 
 width-requires-2 : tie.Need-width-requires-2
 width-requires-2 c κs = search needs
 
-add-size-2 : tie.Need-add-size-2
-add-size-2 c = search needs
+add-whole-2 : tie.Need-add-whole-2
+add-whole-2 c = search needs
 
 returns : tie.Need-returns
 returns c = let g = c .before .before .before .before .args in put-nothing (now (g .room)) (refusedLine (said (g .number) (g .place))) 0 (13 + c .before .before .width .result + c .before .width2 .result) (omega (arith, refused-length (g .number) (g .place), c .before .before .width .ensures .0, c .before .width2 .ensures .0)) (omega (arith, c .if1 .taken))
@@ -61,9 +61,9 @@ put-refusal-spec =
     tie.close
     (tie.spec
     width-requires
-    add-size
+    add-whole
     width-requires-2
-    add-size-2
+    add-whole-2
     returns
     slice-aggregate-put-field
     put-field-requires
