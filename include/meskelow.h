@@ -1,16 +1,18 @@
-/* Meskelow: the intersection of two triangles, and the reader of footprint files, proved against their rules (docs/RULES.md).
+/* Meskelow: the intersection of two triangles, the reader of footprint files and the leak list, proved against their rules
+ * (docs/RULES.md).
  *
  * Link target/staticlib/libmeskelow.a, which `rt staticlib meskelow` makes: x86-64 Linux code that calls nothing but the C
- * library's memcpy, allocates nothing, keeps no state and may be called from any number of threads at once.
+ * library's memcpy and memset, allocates nothing, keeps no state and may be called from any number of threads at once. meskelow_leaks
+ * needs 300 KB of stack, the others a few KB.
  *
  * What is proved (docs/PROMISES.md names each theorem): whatever numbers, bytes and lengths are passed, every call ends and
  * returns exactly the answer of the rules, in every bit of every field and of the room; nothing is read or written outside the
  * slices that are lent; nothing changes beyond the first 2n values of the room (of a NaN there it is proved that it is still a
- * NaN), and nothing at all by a call that is refused or that is lent a file. Not proved: the compiler's back end, memcpy, and
- * the caller.
+ * NaN) or beyond the list's bytes, and nothing at all by a call that is refused or that is lent a file only. Not proved: the
+ * compiler's back end, memcpy, memset, and the caller.
  *
  * What is left to the caller: the lengths are true, so that so many doubles or bytes may be read, and in the room read and
- * written; values and room do not overlap; nobody writes to what is lent before the call has returned; and the processor
+ * written; input and room do not overlap; nobody writes to what is lent before the call has returned; and the processor
  * rounds to nearest and keeps subnormal values, as it does unless a program asks otherwise. A length of 0 goes with any
  * pointer, NULL too. */
 #ifndef MESKELOW_H
@@ -81,6 +83,20 @@ typedef struct {
 /* Recording k of the file, from 0. Its triangles are the 24 * count bytes from file + first on, which lie in the file: six
  * little-endian int32_t each, x and y of three vertices in whole centimetres. Every call judges the whole file first. */
 meskelow_entry meskelow_recording(const uint8_t *file, size_t file_len, size_t k);
+
+typedef struct {
+    uint32_t number;   /* 0: an answer. Else the file's own refusal, or of a good file
+                        *   7  room_len is below the length of the whole list
+                        * and every field below place is zero */
+    uint32_t place;    /* the file's own, or 0 */
+    size_t length;     /* of an answer, the list's bytes, at the front of the room; no NUL stands behind them */
+    uint32_t leaks;    /* and how many leak lines it has: 0 says that no test recording meets a training recording */
+} meskelow_list;
+
+/* The leak list of the file: `leaks K`, then for each test recording and training recording that meet, in table order, a line
+ * `test T train R pairs N` with their ids and the number of triangle pairs that meet. Decimal numbers, a line feed after each
+ * line. 65,536 bytes of room are always enough. */
+meskelow_list meskelow_leaks(const uint8_t *file, size_t file_len, uint8_t *room, size_t room_len);
 
 #ifdef __cplusplus
 }

@@ -3,8 +3,8 @@
 use std::env;
 use std::path::PathBuf;
 
-/// `cases` and `cases_files` are not among them: they must build where there is no library.
-const CALLERS: [&str; 4] = ["compare", "compare_files", "bench", "loop"];
+/// Those that make cases are not among them: they must build where there is no library.
+const CALLERS: [&str; 5] = ["compare", "compare_files", "compare_leaks", "bench", "loop"];
 
 fn main() {
     let package =

@@ -8,7 +8,7 @@ pub mod ordinary;
 mod refused;
 mod smallest;
 mod stages;
-mod touching;
+pub mod touching;
 pub mod worked;
 
 use crate::case::Case;

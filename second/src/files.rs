@@ -8,7 +8,8 @@ pub mod faults;
 pub mod good;
 mod planted;
 mod raw;
-mod shapes;
+pub mod shapes;
+pub mod shown;
 pub mod tally;
 pub mod worked;
 
@@ -16,7 +17,7 @@ use crate::random::Random;
 use damage as d;
 
 /// Its name, its weight, and how a file of it is made.
-pub struct Class(&'static str, usize, fn(&mut Random) -> Vec<u8>);
+pub struct Class(pub &'static str, pub usize, pub fn(&mut Random) -> Vec<u8>);
 
 impl Class {
     pub fn name(&self) -> &'static str {
@@ -79,9 +80,13 @@ pub const CLASSES: [Class; 41] = [
 
 /// A class by its weight.
 pub fn draw(random: &mut Random) -> usize {
-    let total: usize = CLASSES.iter().map(Class::weight).sum();
+    draw_from(&CLASSES, random)
+}
+
+pub fn draw_from(classes: &[Class], random: &mut Random) -> usize {
+    let total: usize = classes.iter().map(Class::weight).sum();
     let mut rest = random.below(total);
-    for (index, class) in CLASSES.iter().enumerate() {
+    for (index, class) in classes.iter().enumerate() {
         if rest < class.weight() {
             return index;
         }

@@ -107,9 +107,14 @@ pub fn recording(file: &[u8], k: usize) -> Entry {
 /// The bytes of a recording's triangles; none where the file or the recording is refused.
 pub fn part(file: &[u8], k: usize) -> &[u8] {
     match line_of(file, k) {
-        Ok(line) => &file[line.first as usize..][..TRIANGLE * usize::from(line.count)],
+        Ok(line) => line.part(file),
         Err(_) => &[],
     }
+}
+
+/// The whole table of a good file, in its order.
+pub fn lines_of(file: &[u8]) -> Result<Vec<Line>, Refused> {
+    Ok(table_of(file)?.chunks_exact(ENTRY).map(Line::read).collect())
 }
 
 /// Six to a triangle, in the order in which they are stored.

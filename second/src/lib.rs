@@ -1,13 +1,15 @@
-//! The rules for triangles and for footprint files, written once more and apart from the proved
-//! crates, with inputs to compare the two by.
+//! The rules for triangles, footprint files and leak lists, written once more and apart from the
+//! proved crates, with inputs to compare the two by.
 
 pub mod case;
 pub mod classes;
 pub mod coverage;
 pub mod files;
 pub mod footprint;
+pub mod leaks;
 pub mod lent;
 pub mod library;
+pub mod lists;
 pub mod pages;
 pub mod random;
 pub mod tally;

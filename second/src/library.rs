@@ -1,6 +1,7 @@
 //! The library under test, called as a C program would call it.
 
 use crate::footprint::{Entry, Verdict};
+use crate::leaks::List;
 
 /// As the library hands it back. Flags stay bytes until somebody has looked at them, because a
 /// byte other than 0 or 1 is no bool.
@@ -20,6 +21,7 @@ extern "C" {
         -> Returned;
     fn meskelow_check(file: *const u8, file_len: usize) -> Verdict;
     fn meskelow_recording(file: *const u8, file_len: usize, k: usize) -> Entry;
+    fn meskelow_leaks(file: *const u8, file_len: usize, room: *mut u8, room_len: usize) -> List;
 }
 
 #[inline]
@@ -57,4 +59,14 @@ pub unsafe fn check_at(start: *const u8, length: usize) -> Verdict {
 /// As for `check_at`.
 pub unsafe fn recording_at(start: *const u8, length: usize, k: usize) -> Entry {
     meskelow_recording(start, length, k)
+}
+
+pub fn leaks(file: &[u8], room: &mut [u8]) -> List {
+    unsafe { meskelow_leaks(file.as_ptr(), file.len(), room.as_mut_ptr(), room.len()) }
+}
+
+/// # Safety
+/// As for `check_at`, and the same for the room, which may be written to. The two do not overlap.
+pub unsafe fn leaks_at(file: *const u8, file_len: usize, room: *mut u8, room_len: usize) -> List {
+    meskelow_leaks(file, file_len, room, room_len)
 }

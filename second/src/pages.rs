@@ -1,13 +1,13 @@
-//! Memory to lend a file from, between pages that nobody may touch.
+//! Memory to lend a file or a room from, between pages that nobody may touch.
 
 use std::os::raw::{c_int, c_void};
 
 use crate::random::Random;
 
-/// Enough for the longest file of a comparison. All sizes here suit any size of a page.
+/// Enough for the longest file and room of a comparison. All sizes here suit any size of a page.
 const ROOM: usize = 1 << 20;
 const WALL: usize = 1 << 16;
-/// How many bytes on either side of the file are looked at, as far as there are any.
+/// How many bytes on either side of what is lent are looked at, as far as there are any.
 const GUARD: usize = 64;
 
 extern "C" {
@@ -37,9 +37,9 @@ pub struct Pages {
     start: *mut u8,
 }
 
-/// A file lent by pointer, as a C program would.
+/// A file or a room lent by pointer, as a C program would.
 pub struct Lent<'a> {
-    pub start: *const u8,
+    pub start: *mut u8,
     area: &'a Pages,
     place: usize,
     length: usize,
@@ -53,38 +53,44 @@ impl Default for Pages {
 
 impl Pages {
     /// Against the wall behind it or the one before it, or between guards at any address.
-    pub fn lend(&mut self, file: &[u8], random: &mut Random) -> Lent<'_> {
-        assert!(file.len() + 4 * GUARD <= ROOM);
+    pub fn lend(&mut self, contents: &[u8], random: &mut Random) -> Lent<'_> {
+        let length = contents.len();
+        assert!(length + 4 * GUARD <= ROOM);
         let place = match random.below(4) {
-            0 | 1 => ROOM - file.len(),
+            0 | 1 => ROOM - length,
             2 => 0,
             _ => GUARD + random.below(GUARD),
         };
-        let lent = Lent { start: self.start.wrapping_add(place), area: self, place, length: file.len() };
+        let lent = Lent { start: self.start.wrapping_add(place), area: self, place, length };
         let (from, to) = lent.guarded();
         // The room is this object's own, and no slice of it is alive.
         let around = unsafe { std::slice::from_raw_parts_mut(lent.area.start.add(from), to - from) };
-        for (k, byte) in around.iter_mut().enumerate() {
-            *byte = guard(from + k);
-        }
-        around[place - from..][..file.len()].copy_from_slice(file);
+        let (before, rest) = around.split_at_mut(place - from);
+        let (within, behind) = rest.split_at_mut(length);
+        before.iter_mut().zip(from..).for_each(|(byte, k)| *byte = guard(k));
+        within.copy_from_slice(contents);
+        behind.iter_mut().zip(place + length..).for_each(|(byte, k)| *byte = guard(k));
         lent
     }
 }
 
 impl Lent<'_> {
-    /// From where to where there are guards, the file between them.
+    /// From where to where there are guards, what is lent between them.
     fn guarded(&self) -> (usize, usize) {
         (self.place.saturating_sub(GUARD), (self.place + self.length + GUARD).min(ROOM))
     }
 
     fn bytes(&self, from: usize, to: usize) -> &[u8] {
-        // As in `lend`; whoever was lent the file is done with it.
+        // As in `lend`; whoever was lent it is done with it.
         unsafe { std::slice::from_raw_parts(self.area.start.add(from), to - from) }
     }
 
-    pub fn holds(&self, file: &[u8]) -> bool {
-        self.bytes(self.place, self.place + self.length) == file
+    pub fn contents(&self) -> &[u8] {
+        self.bytes(self.place, self.place + self.length)
+    }
+
+    pub fn holds(&self, expected: &[u8]) -> bool {
+        self.contents() == expected
     }
 
     pub fn has_its_guards(&self) -> bool {
@@ -103,11 +109,15 @@ fn guard(place: usize) -> u8 {
 /// A file of more bytes than 32 bits can count, `front` and then zeros. It takes no memory but
 /// what is touched of it.
 pub fn endless(front: &[u8]) -> &'static [u8] {
+    let (start, length) = endless_room(front);
+    // The mapping is never given back, and nobody else knows of it.
+    unsafe { std::slice::from_raw_parts(start, length) }
+}
+
+/// The same, to be written to: where it begins, and its length.
+pub fn endless_room(front: &[u8]) -> (*mut u8, usize) {
     let length = (1u64 << 32) as usize + front.len();
     let start = walled(length + WALL - length % WALL);
-    // The mapping is never given back.
-    unsafe {
-        std::ptr::copy_nonoverlapping(front.as_ptr(), start, front.len());
-        std::slice::from_raw_parts(start, length)
-    }
+    unsafe { std::ptr::copy_nonoverlapping(front.as_ptr(), start, front.len()) };
+    (start, length)
 }

@@ -52,6 +52,13 @@ impl Random {
         items[self.below(items.len())]
     }
 
+    /// Any order is as likely as any other.
+    pub fn shuffle<T>(&mut self, items: &mut [T]) {
+        for k in (1..items.len()).rev() {
+            items.swap(k, self.below(k + 1));
+        }
+    }
+
     pub fn sign(&mut self) -> f64 {
         self.pick(&[1.0, -1.0])
     }

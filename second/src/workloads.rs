@@ -1,9 +1,12 @@
-//! Pairs to measure time with, in whole centimetres as a footprint file has them, and such a file.
+//! Pairs to measure time with, in whole centimetres as a footprint file has them, and such files.
 
 use crate::case::{point, Pair};
 use crate::classes::ordinary;
+use crate::files::draft::Draft;
 use crate::files::good;
+use crate::footprint::stored::{TEST, TRAINING};
 use crate::footprint::{Verdict, MOST_RECORDINGS};
+use crate::leaks::List;
 use crate::random::Random;
 use crate::triangles::numbers::Point;
 
@@ -12,8 +15,14 @@ type Triangle = [Point; 3];
 
 const SEED: u64 = 77;
 pub const NAMES: [&str; 3] = ["random", "strips", "far"];
-/// The one workload that is not of pairs.
+/// The workloads that are files: one to judge, and one to list the leaks of.
 pub const FILE: &str = "file";
+pub const LEAKS: &str = "leaks";
+/// Recordings of either set in the file with leaks; more of them would not fit.
+pub const MOST_TRACKS: usize = 28;
+/// Steps of a track in that file, and its triangles.
+const STEPS: usize = 24;
+const TRIANGLES: usize = 2 * STEPS;
 
 /// None where there is no workload of that name.
 pub fn pairs(name: &str, count: usize) -> Option<Vec<Values>> {
@@ -49,11 +58,43 @@ pub fn fold_verdict(sum: u64, verdict: Verdict) -> u64 {
     sum.rotate_left(7) ^ (u64::from(verdict.number) << 32 | u64::from(verdict.place)).wrapping_add(1)
 }
 
+#[inline]
+pub fn fold_list(sum: u64, list: List) -> u64 {
+    let numbers = [list.number, list.place, list.length as u32, list.leaks];
+    numbers.iter().fold(sum, |sum, number| sum.rotate_left(7) ^ u64::from(*number).wrapping_add(1))
+}
+
 /// A good file of the most recordings and then of the most triangles.
 pub fn largest_file() -> Vec<u8> {
     let recordings = MOST_RECORDINGS as usize;
     let mut random = Random::new(SEED);
     good::filled(&mut random, recordings, good::most_triangles(recordings), good::anywhere).bytes()
+}
+
+/// Triangle pairs of the file with so many recordings of either set.
+pub fn pairs_of_tracks(recordings: usize) -> usize {
+    (TRIANGLES * recordings) * (TRIANGLES * recordings)
+}
+
+/// A test and a training track by turns. Every fourth two cross; the others lie where chance puts
+/// them, most of them far apart.
+pub fn file_of_tracks(recordings: usize) -> Vec<u8> {
+    let mut random = Random::new(SEED);
+    let mut triangles = Vec::new();
+    for k in 0..recordings {
+        let (start, course) = (within(&mut random, 400_000.0), within(&mut random, 1.0));
+        let across = point(-course.y, course.x);
+        let other = match k % 4 {
+            0 => beside(start, course, 12_000.0, across, -12_000.0),
+            _ => within(&mut random, 400_000.0),
+        };
+        triangles.extend(strip(&mut random, start, course, STEPS));
+        triangles.extend(strip(&mut random, other, across, STEPS));
+    }
+    let ids: Vec<u32> = (0..2 * recordings).map(|_| random.bits() as u32).collect();
+    let stored = triangles.iter().map(|[a, b, c]| [a.x, a.y, b.x, b.y, c.x, c.y].map(|value| value as i32));
+    let counts = vec![TRIANGLES as u16; 2 * recordings];
+    Draft::of(&ids, &counts, &[TEST, TRAINING].repeat(recordings), stored.collect()).bytes()
 }
 
 /// Two small triangles on opposite sides of the tank.
@@ -69,21 +110,24 @@ fn far(random: &mut Random) -> Pair {
 fn strips(random: &mut Random, count: usize) -> Vec<Pair> {
     let mut pairs = Vec::new();
     while pairs.len() < count {
-        let start = point(random.real(-300_000.0, 300_000.0), random.real(-300_000.0, 300_000.0));
-        let course = point(random.real(-1.0, 1.0), random.real(-1.0, 1.0));
-        let first = strip(random, start, course);
+        let (start, course) = (within(random, 300_000.0), within(random, 1.0));
+        let first = strip(random, start, course, 12);
         let across = point(-course.y, course.x);
         let second = if random.once_in(2) {
-            strip(random, beside(start, course, 6_000.0, across, -6_000.0), across)
+            strip(random, beside(start, course, 6_000.0, across, -6_000.0), across, 12)
         } else {
             let aside = random.real(1_000.0, 5_000.0);
-            strip(random, beside(start, course, 0.0, across, aside), course)
+            strip(random, beside(start, course, 0.0, across, aside), course, 12)
         };
         for &u in &first {
             pairs.extend(second.iter().filter(|v| near(&u, v)).map(|&v| Pair { u, v }));
         }
     }
     pairs
+}
+
+fn within(random: &mut Random, farthest: f64) -> Point {
+    point(random.real(-farthest, farthest), random.real(-farthest, farthest))
 }
 
 fn beside(start: Point, course: Point, along: f64, across: Point, aside: f64) -> Point {
@@ -94,12 +138,12 @@ fn beside(start: Point, course: Point, along: f64, across: Point, aside: f64) ->
     )
 }
 
-/// Twelve steps of a track that bends a little, each a four-sided piece cut into two triangles.
-fn strip(random: &mut Random, start: Point, course: Point) -> Vec<Triangle> {
+/// So many steps of a track that bends a little, each a four-sided piece cut into two triangles.
+fn strip(random: &mut Random, start: Point, course: Point, steps: usize) -> Vec<Triangle> {
     let (step, half_width) = (random.real(700.0, 1_500.0), random.real(1_000.0, 2_000.0));
     let (mut position, mut course) = (start, course);
     let mut banks = Vec::new();
-    for _ in 0..=12 {
+    for _ in 0..=steps {
         let bend = random.real(-0.1, 0.1);
         course = point(course.x - bend * course.y, course.y + bend * course.x);
         let across = point(-course.y, course.x);
@@ -129,10 +173,22 @@ fn near(u: &Triangle, v: &Triangle) -> bool {
 mod tests {
     use super::*;
     use crate::footprint::judge;
+    use crate::leaks::whole_list;
 
     #[test]
     fn the_largest_file_is_good() {
         let file = largest_file();
         assert_eq!((file.len(), judge(&file)), (65_532, Verdict::default()));
+    }
+
+    #[test]
+    fn tracks_meet_here_and_there() {
+        assert_eq!(judge(&file_of_tracks(MOST_TRACKS)), Verdict::default());
+        let meeting = |recordings: usize| {
+            let list = whole_list(&file_of_tracks(recordings)).expect("a good file");
+            list.leaks.iter().map(|leak| leak.pairs).sum::<u32>()
+        };
+        assert!((20..100).contains(&meeting(1)));
+        assert!((20..200).contains(&meeting(5)));
     }
 }

@@ -1,17 +1,22 @@
 //! Time a pair and time a byte, the library and the second program in turn over the same input.
+//! A pair is given by itself, or is one of a file's whose leaks are listed.
 
 use std::process::ExitCode;
 use std::time::Instant;
 
-use second::footprint::{self, Entry, Verdict};
+use second::footprint::{self, Entry, Verdict, MOST_BYTES};
+use second::leaks::{self, List};
 use second::library;
 use second::triangles;
-use second::workloads::{fold, fold_verdict, largest_file, pairs, unforeseen, Values, FILE, NAMES};
+use second::workloads::{file_of_tracks, largest_file, pairs, pairs_of_tracks, unforeseen, Values};
+use second::workloads::{fold, fold_list, fold_verdict, FILE, LEAKS, MOST_TRACKS, NAMES};
 
 const PAIRS: usize = 2_000;
 const ROUNDS: usize = 600;
 /// How often the file is judged in a round.
 const JUDGEMENTS: usize = 4;
+/// Fewer, because a list takes a thousand times as long as a round of the others.
+const ROUNDS_OF_LISTS: usize = 12;
 
 fn main() -> ExitCode {
     println!(
@@ -30,6 +35,12 @@ fn main() -> ExitCode {
         }
         measure(name, &prepared);
     }
+    let file = file_of_tracks(MOST_TRACKS);
+    if list_of(&file, library::leaks) != list_of(&file, leaks::leaks) {
+        println!("{LEAKS}: the two programs answer differently");
+        return ExitCode::FAILURE;
+    }
+    measure_leaks(&file);
     let file = largest_file();
     if everything_of(&file, library::check, library::recording)
         != everything_of(&file, footprint::judge, footprint::recording)
@@ -83,44 +94,63 @@ fn everything_of(
     (check(file), (0..=64).map(|k| recording(file, k)).collect())
 }
 
+/// The answer and the room; not timed.
+fn list_of(file: &[u8], list: fn(&[u8], &mut [u8]) -> List) -> (List, Vec<u8>) {
+    let mut room = vec![0; MOST_BYTES];
+    (list(file, &mut room), room)
+}
+
 fn measure(name: &str, pairs: &[Values]) {
-    let (library, second) = in_turn(|| time_library(pairs), || time_second(pairs));
+    let times = in_turn(ROUNDS, || time_library(pairs), || time_second(pairs));
     let meeting = pairs.iter().filter(|values| triangles::intersect(*values, &mut [0.0; 12]).n > 0).count();
-    println!(
-        "{name:<8} {:>6.1} {:>13.1} {:>9.1} {:>13.1} {:>9.1} {:>7.3} {:>7.3}",
-        100.0 * meeting as f64 / pairs.len() as f64,
-        library.0,
-        library.1,
-        second.0,
-        second.1,
-        library.0 / second.0,
-        library.1 / second.1
-    );
+    print_row(name, percent(meeting, pairs.len()), 1, times);
+}
+
+fn measure_leaks(file: &[u8]) {
+    let times =
+        in_turn(ROUNDS_OF_LISTS, || time_listing(file, library::leaks), || time_listing(file, leaks::leaks));
+    let list = leaks::whole_list(file).expect("the file is a good one");
+    let meeting: u32 = list.leaks.iter().map(|leak| leak.pairs).sum();
+    print_row(LEAKS, percent(meeting as usize, pairs_of_tracks(MOST_TRACKS)), 1, times);
 }
 
 fn measure_file(file: &[u8]) {
-    let (library, second) =
-        in_turn(|| time_judging(file, library::check), || time_judging(file, footprint::judge));
+    let times =
+        in_turn(ROUNDS, || time_judging(file, library::check), || time_judging(file, footprint::judge));
     println!(
         "{:<8} {:>6} {:>23} {:>23} {:>15}",
         "", "bytes", "library ns/byte", "second ns/byte", "library/second"
     );
+    print_row(FILE, file.len().to_string(), 3, times);
+}
+
+fn percent(part: usize, whole: usize) -> String {
+    format!("{:.1}", 100.0 * part as f64 / whole as f64)
+}
+
+/// Least and median, of the library and of the second program.
+type Times = ((f64, f64), (f64, f64));
+
+fn print_row(name: &str, share: String, decimals: usize, (library, second): Times) {
     println!(
-        "{FILE:<8} {:>6} {:>13.3} {:>9.3} {:>13.3} {:>9.3} {:>7.3} {:>7.3}",
-        file.len(),
+        "{name:<8} {share:>6} {:>13.*} {:>9.*} {:>13.*} {:>9.*} {:>7.3} {:>7.3}",
+        decimals,
         library.0,
+        decimals,
         library.1,
+        decimals,
         second.0,
+        decimals,
         second.1,
         library.0 / second.0,
         library.1 / second.1
     );
 }
 
-/// Least and median of each. Whoever goes first finds the caches colder, so they take turns at it.
-fn in_turn(library: impl Fn() -> f64, second: impl Fn() -> f64) -> ((f64, f64), (f64, f64)) {
+/// Whoever goes first finds the caches colder, so they take turns at it.
+fn in_turn(rounds: usize, library: impl Fn() -> f64, second: impl Fn() -> f64) -> Times {
     let (mut of_library, mut of_second) = (Vec::new(), Vec::new());
-    for round in 0..ROUNDS {
+    for round in 0..rounds {
         if round % 2 == 0 {
             of_library.push(library());
             of_second.push(second());
@@ -165,6 +195,15 @@ fn time_judging(file: &[u8], check: fn(&[u8]) -> Verdict) -> f64 {
     }
     unforeseen(sum);
     begin.elapsed().as_nanos() as f64 / (JUDGEMENTS * file.len()) as f64
+}
+
+/// One list; its room is made before the clock runs.
+fn time_listing(file: &[u8], list: fn(&[u8], &mut [u8]) -> List) -> f64 {
+    let mut room = vec![0; MOST_BYTES];
+    let begin = Instant::now();
+    let sum = fold_list(0, list(unforeseen(file), &mut room));
+    unforeseen(sum);
+    begin.elapsed().as_nanos() as f64 / pairs_of_tracks(MOST_TRACKS) as f64
 }
 
 fn least_and_median(mut times: Vec<f64>) -> (f64, f64) {

@@ -5,6 +5,7 @@ use std::process::ExitCode;
 
 use second::files::coverage::Coverage;
 use second::files::faults::trailer_of;
+use second::files::shown::text_of;
 use second::files::tally::Tally;
 use second::files::worked::{in_turn, EXAMPLE};
 use second::files::{draw, CLASSES};
@@ -128,7 +129,7 @@ fn numbers_asked(file: &[u8], random: &mut Random) -> Vec<usize> {
 fn compare(file: &[u8], asked: &[usize], pages: &mut Pages, random: &mut Random) -> Result<(), String> {
     let with_null = file.is_empty() && random.once_in(2);
     let lent = pages.lend(file, random);
-    let start = if with_null { std::ptr::null() } else { lent.start };
+    let start = if with_null { std::ptr::null_mut() } else { lent.start };
     let mut differences = String::new();
     // The whole file is lent, or it is empty.
     let of_library = unsafe { library::check_at(start, file.len()) };
@@ -147,21 +148,4 @@ fn compare(file: &[u8], asked: &[usize], pages: &mut Pages, random: &mut Random)
         return Ok(());
     }
     Err(differences + &text_of(file))
-}
-
-/// All of a short file, otherwise its trailer.
-fn text_of(file: &[u8]) -> String {
-    const SHORT: usize = 600;
-    let from = if file.len() > SHORT { file.len() - 12 } else { 0 };
-    let mut text =
-        format!("file of {} bytes{}", file.len(), if from > 0 { ", the last twelve:" } else { ":" });
-    for (k, byte) in file[from..].iter().enumerate() {
-        text += match k {
-            _ if k % 12 == 0 => "\n  ",
-            _ if k % 4 == 0 => "  ",
-            _ => " ",
-        };
-        text += &format!("{byte:02x}");
-    }
-    text
 }

@@ -2,10 +2,12 @@
 
 use std::process::ExitCode;
 
-use second::footprint::{judge, Verdict};
+use second::footprint::{judge, Verdict, MOST_BYTES};
+use second::leaks::{leaks, List};
 use second::library;
 use second::triangles;
-use second::workloads::{fold, fold_verdict, largest_file, pairs, unforeseen, Values, FILE};
+use second::workloads::{file_of_tracks, largest_file, pairs, unforeseen, Values, FILE, LEAKS, MOST_TRACKS};
+use second::workloads::{fold, fold_list, fold_verdict};
 
 fn main() -> ExitCode {
     match checksum() {
@@ -14,7 +16,7 @@ fn main() -> ExitCode {
             ExitCode::SUCCESS
         }
         None => {
-            eprintln!("usage: loop library|second random|strips|far|file COUNT ROUNDS");
+            eprintln!("usage: loop library|second random|strips|far|file|leaks COUNT ROUNDS");
             ExitCode::from(2)
         }
     }
@@ -29,6 +31,9 @@ fn checksum() -> Option<u64> {
     let (count, rounds): (usize, usize) = (count.parse().ok()?, rounds.parse().ok()?);
     if workload == FILE {
         return judgements(side, count * rounds);
+    }
+    if workload == LEAKS {
+        return lists(side, count, rounds);
     }
     let prepared = pairs(workload, count)?;
     let round = match side.as_str() {
@@ -48,6 +53,20 @@ fn judgements(side: &str, count: usize) -> Option<u64> {
         _ => return None,
     };
     Some((0..count).fold(0, |sum, _| fold_verdict(sum, check(unforeseen(&file)))))
+}
+
+/// Of one file with so many recordings of either set. The last list is looked at itself, once.
+fn lists(side: &str, recordings: usize, rounds: usize) -> Option<u64> {
+    let list: fn(&[u8], &mut [u8]) -> List = match side {
+        "library" => library::leaks,
+        "second" => leaks,
+        _ => return None,
+    };
+    let file = file_of_tracks(recordings.min(MOST_TRACKS));
+    let mut room = [0; MOST_BYTES];
+    let sum = (0..rounds).fold(0, |sum, _| fold_list(sum, list(unforeseen(&file), &mut room)));
+    let written = room.iter().take_while(|byte| **byte != 0);
+    Some(written.fold(sum, |sum, byte| sum.rotate_left(7) ^ u64::from(*byte)))
 }
 
 fn library_round(mut sum: u64, pairs: &[Values]) -> u64 {

@@ -127,7 +127,8 @@ fn ids(random: &mut Random, count: usize) -> Vec<u32> {
     }
 }
 
-fn distinct(random: &mut Random, count: usize, mut id: impl FnMut(&mut Random) -> u32) -> Vec<u32> {
+/// So many ids, no two alike.
+pub fn distinct(random: &mut Random, count: usize, mut id: impl FnMut(&mut Random) -> u32) -> Vec<u32> {
     let mut ids = Vec::new();
     while ids.len() < count {
         let next = id(random);

@@ -33,7 +33,7 @@ fn tiny_far_out(random: &mut Random) -> Triangle {
     moved(offsets, corner)
 }
 
-fn not_flat(random: &mut Random, mut value: impl FnMut(&mut Random) -> i32) -> Triangle {
+pub fn not_flat(random: &mut Random, mut value: impl FnMut(&mut Random) -> i32) -> Triangle {
     loop {
         let triangle = [0; 6].map(|_| value(random));
         if cross(triangle) != 0 {

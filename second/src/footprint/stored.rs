@@ -7,6 +7,11 @@ pub const TRIANGLE: usize = 24;
 pub const ENTRY: usize = 12;
 pub const TRAILER: usize = 12;
 
+/// The sets that a recording can be of.
+pub const TRAINING: u8 = 0;
+pub const TEST: u8 = 1;
+pub const HELD_BACK: u8 = 2;
+
 /// An entry of the table.
 #[derive(Clone, Copy, Debug)]
 pub struct Line {
@@ -31,6 +36,11 @@ impl Line {
     /// How many bytes its triangles take.
     pub fn bytes(&self) -> u64 {
         TRIANGLE as u64 * u64::from(self.count)
+    }
+
+    /// Its triangles, in the good file that it is from.
+    pub fn part<'a>(&self, file: &'a [u8]) -> &'a [u8] {
+        &file[self.first as usize..][..TRIANGLE * usize::from(self.count)]
     }
 
     /// What is wrong with it by itself, if the triangles before it end at `end`.

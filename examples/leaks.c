@@ -1,0 +1,31 @@
+/* The leak list of a footprint file. Exit status: 0 no leaks, 1 leaks, 2 the file is refused, 3 it could not be read or the list
+ * not be written. */
+#include <inttypes.h>
+#include <stdio.h>
+
+#include "meskelow.h"
+
+enum { MOST = 65536 }; /* bytes of a footprint file; no list has more */
+
+int main(int argc, char **argv)
+{
+    static uint8_t file[MOST + 1], room[MOST]; /* one byte more, so that a longer file is seen to be too long */
+    const char *name = argc > 1 ? argv[1] : "";
+    FILE *stream = fopen(name, "rb");
+    size_t length = stream == NULL ? 0 : fread(file, 1, sizeof file, stream);
+    if (stream == NULL || ferror(stream)) { /* not read, or not to its end: nothing is said of it */
+        perror(name);
+        return 3;
+    }
+    fclose(stream);
+    meskelow_list list = meskelow_leaks(file, length, room, sizeof room);
+    if (list.number == 0)
+        fwrite(room, 1, list.length, stdout);
+    else
+        printf("refused %" PRIu32 " at %" PRIu32 "\n", list.number, list.place);
+    if (fflush(stdout) != 0 || ferror(stdout)) { /* what has been printed is no whole list */
+        perror("standard output");
+        return 3;
+    }
+    return list.number != 0 ? 2 : list.leaks != 0;
+}

@@ -1,0 +1,274 @@
+"""Meskelow from Python: the proved library, called by ctypes. include/meskelow.h says what each answer means.
+
+    import meskelow
+
+    answer = meskelow.intersect([(1, 1), (-3, 1), (1, -3)], [(0, 0), (4, 0), (0, 4)])
+    print(answer.ring, answer.area)
+
+    with open("night.footprint", "rb") as stream:
+        file = stream.read()
+    for leak in meskelow.leaks(file).leaks:
+        print(leak.test, leak.train, leak.pairs)
+
+What the rules refuse is raised as `Refused`, a ValueError that carries their number and place. So whatever a function
+returns is an answer.
+
+The library has to be made first, and again whenever the static library has changed:
+
+    rt staticlib meskelow && python3 python/meskelow.py build
+
+It is x86-64 Linux code, for a Python of that kind. Any number of threads may call it at once.
+"""
+
+from __future__ import annotations
+
+import ctypes
+import functools
+import os
+import pathlib
+import platform
+import re
+import struct
+import sys
+from typing import Iterator, NamedTuple, Sequence, Tuple, Union
+
+ROOT = pathlib.Path(__file__).resolve().parent.parent
+ARCHIVE = ROOT / "target" / "staticlib" / "libmeskelow.a"
+LIBRARY = ROOT / "target" / "python" / "libmeskelow.so"
+
+TRAINING, TEST, HELD_BACK = 0, 1, 2  # the sets of recordings
+
+Bytes = Union[bytes, bytearray, memoryview]
+Triangle = Sequence[Sequence[float]]  # three (x, y)
+Flags = Tuple[bool, bool, bool]
+
+_LEAK = re.compile("test ([0-9]+) train ([0-9]+) pairs ([0-9]+)")
+
+_REASONS = {
+    1: "there are not three vertices with two coordinates each",
+    2: "a coordinate is not finite",
+    3: "V is flat",
+    4: "a value that the rules compute is not finite",
+    5: "U is flat",
+    7: "the room is shorter than the list",
+    10: "the file is good, but has no such recording",
+    11: "the file is shorter than 12 bytes or longer than 65,536",
+    12: "the length in the trailer is not the file's",
+    13: "over 64 recordings, or table and trailer do not end with the file",
+    14: "an entry has no triangles, a set over 2 or a last byte that is not 0, or does not begin where the one before ends",
+    15: "the last triangle does not end at the table, or there are no recordings and the table is not at 0",
+    16: "an entry has the id of an earlier one",
+    17: "a coordinate is out of range",
+    18: "a triangle has no area",
+}
+
+
+class Refused(ValueError):
+    """There is no answer. `number` is the rules' refusal: 1 to 5 of two triangles, 11 to 18 of a file, 10 of a recording
+    that a good file does not have. (7 does not occur: a list gets all the room that it can need.) `place` is the byte offset
+    in the file that the refusal reports, or 0."""
+
+    def __init__(self, number: int, place: int = 0) -> None:
+        super().__init__(number, place)
+        self.number = number
+        self.place = place
+
+    def __str__(self) -> str:
+        return f"refused {self.number} at {self.place}: {_REASONS.get(self.number, 'a number that has no words here')}"
+
+
+class LibraryError(RuntimeError):
+    """The library is not built, not up to date, or not for this Python. The message says what to run."""
+
+
+class Answer(NamedTuple):
+    """What two triangles share."""
+
+    ring: Tuple[Tuple[float, float], ...]  # none or three to six corners, in the ring's order; positions may coincide
+    area: float
+    u_in_v: Flags  # vertex i of U is in V
+    v_in_u: Flags  # corner k of V is in U
+    neighbour: Flags  # V's edge on line a touches U
+
+
+class Recording(NamedTuple):
+    """An entry of a footprint file's table, and its triangles."""
+
+    id: int
+    set: int  # TRAINING, TEST or HELD_BACK
+    first: int  # place of the first triangle
+    last: int  # the entry's last byte
+    triangles: Tuple[Tuple[Tuple[int, int], Tuple[int, int], Tuple[int, int]], ...]  # whole centimetres
+
+
+class Leak(NamedTuple):
+    """A test recording that meets a training recording, by their ids."""
+
+    test: int
+    train: int
+    pairs: int  # how many pairs of their triangles meet
+
+
+class LeakList(NamedTuple):
+    """The leaks of a file in the list's order, and the list itself."""
+
+    leaks: Tuple[Leak, ...]
+    text: str
+
+
+def intersect(u: Triangle, v: Triangle) -> Answer:
+    """What U and V share. V is the reference: exchanged they may give another answer, by rounding."""
+    if any(len(triangle) != 3 or any(len(vertex) != 2 for vertex in triangle) for triangle in (u, v)):
+        raise Refused(1)
+    values = (ctypes.c_double * 12)(*(c for triangle in (u, v) for vertex in triangle for c in vertex))
+    room = (ctypes.c_double * 12)()
+    got = _library().meskelow_intersect(values, 12, room, 12)
+    _raise_if_refused(got.number)
+    ring = tuple((room[2 * k], room[2 * k + 1]) for k in range(got.n))
+    return Answer(ring, got.area, _three(got.u_in_v), _three(got.v_in_u), _three(got.neighbour))
+
+
+def check(file: Bytes) -> None:
+    """Returns if these bytes are a good footprint file."""
+    lent = _lent(file)
+    got = _library().meskelow_check(lent, len(lent))
+    _raise_if_refused(got.number, got.place)
+
+
+def recording(file: Bytes, k: int) -> Recording:
+    """Recording k of the file, from 0. A number that is not there is refused, also one below 0: none counts from the end."""
+    lent = _lent(file)
+    none = 2**64 - 1  # ctypes would cut a number to its lowest 64 bits
+    got = _library().meskelow_recording(lent, len(lent), k if 0 <= k <= none else none)
+    _raise_if_refused(got.number, got.place)
+    numbers = struct.iter_unpack("<6i", lent[got.first : got.first + 24 * got.count])
+    triangles = tuple(((n[0], n[1]), (n[2], n[3]), (n[4], n[5])) for n in numbers)
+    return Recording(got.id, got.set, got.first, got.last, triangles)
+
+
+def recordings(file: Bytes) -> Iterator[Recording]:
+    """All recordings of the file, in its order."""
+    lent = _lent(file)
+    k = 0
+    while True:
+        try:
+            found = recording(lent, k)
+        except Refused as refused:
+            if refused.number == 10:
+                return
+            raise
+        yield found
+        k += 1
+
+
+def leaks(file: Bytes) -> LeakList:
+    """The file's leak list."""
+    lent = _lent(file)
+    room = ctypes.create_string_buffer(65536)
+    got = _library().meskelow_leaks(lent, len(lent), room, len(room))
+    _raise_if_refused(got.number, got.place)
+    text = room.raw[: got.length].decode("ascii")
+    first, *lines = text.splitlines()
+    found = tuple(Leak(*map(int, match.groups())) for match in map(_LEAK.fullmatch, lines) if match)
+    if first != f"leaks {got.leaks}" or not len(found) == len(lines) == got.leaks:
+        raise LibraryError("the library writes other lists than this module reads; are both of one version?")
+    return LeakList(found, text)
+
+
+def build() -> None:
+    """Makes the shared library from the static one."""
+    import subprocess  # which no other function needs
+
+    if not ARCHIVE.exists():
+        raise LibraryError(f"there is no {ARCHIVE}: run 'rt staticlib meskelow'")
+    compiler = "gcc" if platform.machine() == "x86_64" else "x86_64-linux-gnu-gcc"
+    LIBRARY.parent.mkdir(parents=True, exist_ok=True)
+    unfinished = LIBRARY.with_suffix(f".{os.getpid()}")
+    made_at = ARCHIVE.stat().st_mtime_ns
+    whole = ["-Wl,--whole-archive", str(ARCHIVE), "-Wl,--no-whole-archive"]
+    try:
+        subprocess.run([compiler, "-shared", "-Wl,-z,defs", *whole, "-o", str(unfinished)], check=True)
+        os.utime(unfinished, ns=(made_at, made_at))  # by which _library tells that it is of this archive
+        os.replace(unfinished, LIBRARY)
+    except (OSError, subprocess.CalledProcessError) as error:
+        unfinished.unlink(missing_ok=True)
+        raise LibraryError(f"cannot make {LIBRARY}: {error}") from error
+
+
+class _Answer(ctypes.Structure):
+    _fields_ = [
+        ("number", ctypes.c_uint32),
+        ("n", ctypes.c_uint32),
+        ("area", ctypes.c_double),
+        ("u_in_v", ctypes.c_bool * 3),
+        ("v_in_u", ctypes.c_bool * 3),
+        ("neighbour", ctypes.c_bool * 3),
+    ]
+
+
+class _Verdict(ctypes.Structure):
+    _fields_ = [("number", ctypes.c_uint32), ("place", ctypes.c_uint32)]
+
+
+class _Entry(ctypes.Structure):
+    _fields_ = [(name, ctypes.c_uint32) for name in ("number", "place", "id", "first", "count", "set", "last")]
+
+
+class _List(ctypes.Structure):
+    _fields_ = [
+        ("number", ctypes.c_uint32),
+        ("place", ctypes.c_uint32),
+        ("length", ctypes.c_size_t),
+        ("leaks", ctypes.c_uint32),
+    ]
+
+
+_DOUBLES = ctypes.POINTER(ctypes.c_double)
+_FUNCTIONS = {
+    "meskelow_intersect": (_Answer, [_DOUBLES, ctypes.c_size_t, _DOUBLES, ctypes.c_size_t]),
+    "meskelow_check": (_Verdict, [ctypes.c_char_p, ctypes.c_size_t]),
+    "meskelow_recording": (_Entry, [ctypes.c_char_p, ctypes.c_size_t, ctypes.c_size_t]),
+    "meskelow_leaks": (_List, [ctypes.c_char_p, ctypes.c_size_t, ctypes.c_char_p, ctypes.c_size_t]),
+}
+
+
+@functools.lru_cache(maxsize=None)
+def _library() -> ctypes.CDLL:
+    to_build = "run 'rt staticlib meskelow && python3 python/meskelow.py build'"
+    if not LIBRARY.exists():
+        raise LibraryError(f"there is no {LIBRARY}: {to_build}")
+    if ARCHIVE.exists() and ARCHIVE.stat().st_mtime_ns != LIBRARY.stat().st_mtime_ns:
+        raise LibraryError(f"{LIBRARY} was made from another {ARCHIVE.name}: {to_build}")
+    try:
+        library = ctypes.CDLL(str(LIBRARY))
+        for name, (answer, words) in _FUNCTIONS.items():
+            function = getattr(library, name)
+            function.restype = answer
+            function.argtypes = words
+    except (OSError, AttributeError) as error:
+        kind = f"it is x86-64 Linux code, and this Python is for {platform.machine()}"
+        raise LibraryError(f"cannot load {LIBRARY} ({kind}): {error}; to make it again, {to_build}") from error
+    return library
+
+
+def _lent(file: Bytes) -> bytes:
+    """The bytes of the file, which nobody changes while the library reads them."""
+    return file if isinstance(file, bytes) else memoryview(file).tobytes()
+
+
+def _three(flags: Sequence[bool]) -> Flags:
+    return flags[0], flags[1], flags[2]
+
+
+def _raise_if_refused(number: int, place: int = 0) -> None:
+    if number != 0:
+        raise Refused(number, place)
+
+
+if __name__ == "__main__":
+    if sys.argv[1:] != ["build"]:
+        sys.exit("usage: meskelow.py build")
+    try:
+        build()
+    except LibraryError as error:
+        sys.exit(f"meskelow.py: {error}")

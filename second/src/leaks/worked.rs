@@ -1,0 +1,89 @@
+//! The files and lists that are worked by hand.
+
+use super::{leaks, meets, List};
+use crate::files::worked::{all as all_files, EXAMPLE};
+use crate::footprint::stored::{TEST, TRAINING};
+use crate::lists::worked::{all, file_of, EXAMPLE_LIST, U_OF_D, V};
+
+/// What the room has in every byte before the call.
+const UNTOUCHED: u8 = b'~';
+
+/// Nothing is written but the whole list.
+fn expect_list(file: &[u8], list: &str, room_length: usize) {
+    let mut room = vec![UNTOUCHED; room_length];
+    let answer = leaks(file, &mut room);
+    let written = if room_length < list.len() { 0 } else { list.len() };
+    if written == 0 {
+        assert_eq!(answer, List { number: 7, place: 0, length: 0, leaks: 0 });
+    } else {
+        let lines = list.lines().count() as u32 - 1;
+        assert_eq!(answer, List { number: 0, place: 0, length: list.len(), leaks: lines });
+    }
+    assert_eq!(String::from_utf8_lossy(&room[..written]), &list[..written]);
+    assert!(room[written..].iter().all(|byte| *byte == UNTOUCHED));
+}
+
+#[test]
+fn lists() {
+    for worked in all() {
+        let length = worked.list.len();
+        for room_length in [0, 1, 7, 8, 9, length - 1, length, length + 1, length + 100] {
+            expect_list(&worked.file, &worked.list, room_length);
+        }
+    }
+}
+
+#[test]
+fn every_room_for_the_example() {
+    assert_eq!(file_of(&[(7, TRAINING, &[V]), (9, TEST, &[U_OF_D])]), EXAMPLE);
+    assert_eq!(EXAMPLE_LIST.len(), 31);
+    (0..40).for_each(|length| expect_list(&EXAMPLE, EXAMPLE_LIST, length));
+}
+
+/// As many lines as there can be, each with two ids of ten digits.
+#[test]
+fn all_lines() {
+    let recording = |k: u32| (u32::MAX - k, if k % 2 == 0 { TEST } else { TRAINING }, &[V][..]);
+    let file = file_of(&(0..64).map(recording).collect::<Vec<_>>());
+    let mut list = "leaks 1024\n".to_string();
+    for test in 0..32 {
+        for training in 0..32 {
+            let ids = [u32::MAX - 2 * test, u32::MAX - 1 - 2 * training];
+            list += &format!("test {} train {} pairs 1\n", ids[0], ids[1]);
+        }
+    }
+    assert_eq!(list.len(), 11 + 1024 * 41);
+    [list.len() - 1, list.len(), 65_536].iter().for_each(|length| expect_list(&file, &list, *length));
+}
+
+/// Whatever the room: it is not looked at, nor written to.
+#[test]
+fn a_refused_file_answers_for_itself() {
+    for worked in all_files().iter().filter(|worked| worked.number != 0) {
+        for length in [0, 7, 8, 100] {
+            let mut room = vec![UNTOUCHED; length];
+            let expected = List { number: worked.number, place: worked.place, length: 0, leaks: 0 };
+            assert_eq!(leaks(&worked.file, &mut room), expected);
+            assert!(room.iter().all(|byte| *byte == UNTOUCHED));
+        }
+    }
+}
+
+#[test]
+fn a_refused_pair_counts_as_meeting() {
+    let apart = [10.0, 10.0, 11.0, 10.0, 10.0, 11.0, 0.0, 0.0, 4.0, 0.0, 0.0, 4.0];
+    assert!(!meets(&apart, &mut [0.0; 12]));
+    // Refusals 2, 3, 4 and 5.
+    for (place, value) in [(7, f64::NAN), (11, 0.0), (8, 1e308), (5, 10.0)] {
+        let mut values = apart;
+        values[place] = value;
+        assert!(meets(&values, &mut [0.0; 12]));
+    }
+}
+
+/// The list that is shipped with the night of the examples is this program's.
+#[test]
+fn the_night() {
+    let file = include_bytes!("../../../examples/night.footprint");
+    expect_list(file, include_str!("../../../examples/night.expected"), 65_536);
+}

@@ -1,0 +1,78 @@
+//! The classes of files that a comparison of leak lists draws from.
+
+pub mod coverage;
+mod events;
+pub mod largest;
+mod recordings;
+pub mod rooms;
+mod scenes;
+pub mod tally;
+mod tracks;
+pub mod worked;
+
+use crate::files::{self, good, shapes, Class};
+use crate::footprint::lines_of;
+use crate::footprint::stored::{Line, TEST, TRAINING};
+use crate::random::Random;
+
+pub const CLASSES: [Class; 15] = [
+    Class("no recordings", 5, |_| good::none().bytes()),
+    Class("worked pairs", 14, scenes::worked),
+    Class("few recordings on a small grid", 20, |r| scenes::grid(r, 2, 6, 3)),
+    Class("several recordings on a small grid", 10, |r| scenes::grid(r, 9, 20, 1)),
+    Class("64 recordings on a small grid", 4, |r| scenes::grid(r, 64, 64, 1)),
+    Class("touching pairs", 22, scenes::touching),
+    Class("tracks that cross, touch or lie apart", 16, tracks::file),
+    Class("recordings of one set", 12, scenes::one_set),
+    Class("one pair that meets", 15, scenes::one_pair),
+    Class("many pairs that meet", 8, scenes::many_pairs),
+    Class("triangles of any shape, one recording", 8, |r| good::one(r).bytes()),
+    Class("triangles of any shape, few recordings", 10, |r| good::few(r).bytes()),
+    Class("long and thin triangles", 10, |r| good::of_shape(r, shapes::thin).bytes()),
+    Class("triangles at the ends of the range", 10, |r| good::of_shape(r, shapes::at_the_ends).bytes()),
+    Class("files that readers are compared with", 70, any_file),
+];
+
+/// A class by its weight.
+pub fn draw(random: &mut Random) -> usize {
+    files::draw_from(&CLASSES, random)
+}
+
+/// Most of them are refused; none takes long.
+fn any_file(random: &mut Random) -> Vec<u8> {
+    const MOST: usize = 300;
+    loop {
+        let file = files::CLASSES[files::draw(random)].file(random);
+        if pairs_in(&file) <= MOST {
+            return file;
+        }
+    }
+}
+
+/// Triangle pairs that a list has to look at; none of a refused file.
+pub fn pairs_in(file: &[u8]) -> usize {
+    let lines = lines_of(file).unwrap_or_default();
+    let triangles = |set: u8| -> usize { of_set(&lines, set).map(|line| usize::from(line.count)).sum() };
+    triangles(TEST) * triangles(TRAINING)
+}
+
+/// The recordings of one set, in the table's order.
+pub fn of_set(lines: &[Line], set: u8) -> impl Iterator<Item = &Line> {
+    lines.iter().filter(move |line| line.set == set)
+}
+
+#[cfg(test)]
+mod tests {
+    use super::*;
+
+    /// All but the last, of which most are refused.
+    #[test]
+    fn classes_of_good_files() {
+        let mut random = Random::new(6);
+        for class in &CLASSES[..CLASSES.len() - 1] {
+            for _ in 0..100 {
+                assert!(lines_of(&class.file(&mut random)).is_ok(), "class '{}'", class.name());
+            }
+        }
+    }
+}

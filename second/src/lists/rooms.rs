@@ -1,0 +1,43 @@
+//! Rooms to lend for a list.
+
+use crate::footprint::MOST_BYTES;
+use crate::random::Random;
+
+#[derive(Clone, Copy, Debug)]
+pub struct Room {
+    pub length: usize,
+    /// NULL is lent, which an empty room may be.
+    pub null: bool,
+}
+
+impl Room {
+    pub fn of(length: usize) -> Room {
+        Room { length, null: false }
+    }
+
+    pub const NULL: Room = Room { length: 0, null: true };
+}
+
+/// What a room holds before the call: nothing that a list has in it, no two neighbours alike.
+pub fn unwritten(length: usize) -> Vec<u8> {
+    (0..length).map(|k| 128 + (k % 127) as u8).collect()
+}
+
+/// One byte too few for the list, and as many as it has; then once in `many` each of these: two too
+/// few, one and two more, from none to ten, NULL, as many as any list can need, and by chance. Of a
+/// refused file the list's length is 0.
+pub fn rooms_for(list: usize, many: usize, random: &mut Random) -> Vec<Room> {
+    let mut others = vec![list.saturating_sub(2), list + 1, list + 2, MOST_BYTES];
+    others.extend(0..=10);
+    others.push(random.below(list + 1));
+    others.push(list + random.below(2_000));
+    others.retain(|_| random.once_in(many));
+    let mut lengths = [vec![list.saturating_sub(1), list], others].concat();
+    lengths.sort_unstable();
+    lengths.dedup();
+    let mut rooms: Vec<Room> = lengths.into_iter().map(Room::of).collect();
+    if random.once_in(many) {
+        rooms.push(Room::NULL);
+    }
+    rooms
+}
