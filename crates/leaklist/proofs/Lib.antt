@@ -3,3 +3,4 @@ pub mod Counted
 pub mod Lines
 pub mod Gathered
 pub mod Written
+pub mod Said

@@ -5,3 +5,4 @@ pub mod Ids
 pub mod Never
 pub mod Returned
 pub mod Worked
+pub mod Enough

@@ -6,3 +6,4 @@ pub mod Listing
 pub mod Promise
 pub mod Demand
 pub mod Worked
+pub mod Enough
