@@ -95,7 +95,7 @@ typedef struct {
 
 /* The leak list of the file: `leaks K`, then for each test recording and training recording that meet, in table order, a line
  * `test T train R pairs N` with their ids and the number of triangle pairs that meet. Decimal numbers, a line feed after each
- * line. 65,536 bytes of room are always enough. */
+ * line. A room of 65,536 bytes holds every list. */
 meskelow_list meskelow_leaks(const uint8_t *file, size_t file_len, uint8_t *room, size_t room_len);
 
 #ifdef __cplusplus

@@ -1,5 +1,5 @@
-// Reads a footprint file on standard input, to its end or one byte more than a file may have, and writes the leak list, or the line that says how the file is refused. A read that fails is no end
-// of the file: then nothing is written but a line on standard error.
+// Reads a footprint file on standard input, to its end or one byte more than a file may have, and writes the leak list, or the line that says how the file is refused. Where a read
+// fails the file has not ended: then nothing is written but a line on standard error.
 use libc::STDERR_FILENO;
 use libc::STDIN_FILENO;
 use libc::STDOUT_FILENO;

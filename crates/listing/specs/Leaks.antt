@@ -34,7 +34,7 @@ module _ (file : List ℕ) where
   unfolding tallyOf entryAt
   pairsMeeting p = tallyOf file (entryAt file (p .0)) (entryAt file (p .1)) .meeting
 
-  -- a line for each pair of recordings with at least one meeting triangle pair
+  -- two recordings have a line if any of their triangle pairs meets
   abbrev pub isLeak : ℕ × ℕ → Bool
   isLeak p = ltb 0 (pairsMeeting p)
 

@@ -34,7 +34,7 @@ module _ (file : List ℕ) where
   unfolding coordinatesAt decisionOf
   decisionAt test train a b = decisionOf (coordinatesAt (placeIn test a) ++ coordinatesAt (placeIn train b))
 
-  -- the test triangles in stored order, each with the training triangles in stored order
+  -- test triangles as they are stored, and with each of them the training triangles as they are stored
   unfoldable pub decisions : Entry → Entry → List Decision
   unfolding decisionAt upTo each
   decisions test train = each (λ a. map (decisionAt test train a) (upTo (train .count))) (upTo (test .count))
