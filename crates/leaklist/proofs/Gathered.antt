@@ -5,28 +5,25 @@ use mathlib.Core.Bool.{Bool, true, false, cond}
 use mathlib.Core.List.{List, [], _∷_, _++_, map, append-assoc, append-nil, List·Memᴰ, List·Memᴰ·head as here, List·Memᴰ·tail as there}
 use native.Mathlib.Omega.{arith}
 use native.Mathlib.Numerals.{add-one}
-use lib.Dec.{ltb, eqb}
 use borrow.Author.Tests.{eq-eqb, ne-eqb}
 use lib.ListN.{length}
 use lib.Ieee.{Float}
 use Rattle.floats.specs.Lists.{filter}
 use Rattle.floats.proofs.Lists.{filter-append}
-use Rattle.triangles.specs.declared.Decision.{Decision}
 use Rattle.triangles.specs.Decision.{decisionOf}
 use Rattle.routine.specs.Shapes.{Made, twelve}
 use Rattle.layout.specs.declared.Entry.{Entry}
 use Rattle.layout.specs.Bytes.{u32At}
 use Rattle.layout.specs.Parts.{tablePlace, countOf, entryFrom, entryPlace, entryAt, trianglesOf}
 use Rattle.layout.specs.Layout.{Layout}
-use Rattle.layout.specs.Recordings.{f64At}
 use Rattle.layout.specs.Inside.{Inside}
 use Rattle.layout.proofs.Inside.{parts-inside}
 use Rattle.listing.specs.declared.Tally.{Tally}
 use Rattle.listing.specs.Turns.{upTo, each, folded}
 use Rattle.listing.specs.Pairs.{isTest, isTraining, placeIn, coordinatesAt, decisionAt, decisions, noneYet, tallied, tallyOf}
 use Rattle.listing.specs.Leaks.{Leak, tests, trainings, recordingPairs, pairsMeeting, isLeak, leakPairs, leakOf, leaks}
-use Rattle.listing.proofs.Turns.{below, map-append, each-append, each-one}
-use Rattle.leaklist.specs.Code.{shapeIn, shapeFrom, MadeFrom, Prepared, decisionIn, rowIn, tallyIn, Gathering, leaksIn, leakOn, itemOf, rowTo, testOf, listTo}
+use Rattle.listing.proofs.Turns.{below, map-append, each-append}
+use Rattle.leaklist.specs.Code.{shapeFrom, MadeFrom, Prepared, decisionIn, rowIn, tallyIn, Gathering, leaksIn, leakOn, itemOf, rowTo, testOf, listTo}
 
 -- ---- the recording's triangles by number
 module _ (file : List ℕ) (good : Layout file) (i : ℕ) (there-is : i < countOf file) where

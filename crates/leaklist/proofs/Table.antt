@@ -1,19 +1,19 @@
 -- The table of prepared triangles: what is put there is found there, and decisions from it are those of the file. Assumes nothing.
-use Prim.Native.Nat.{ℕ, zero, suc, _+_, _*_, _/_, _<_, _≤_}
-use mathlib.Core.Path.{_≡_, refl, sym, ap, ap₂, subst, _∙_}
+use Prim.Native.Nat.{ℕ, suc, _+_, _*_, _<_, _≤_}
+use mathlib.Core.Path.{_≡_, refl, sym, ap, subst, _∙_}
 use mathlib.Core.Bool.{Bool, true, false}
-use mathlib.Core.List.{List, [], _∷_, _++_, map}
+use mathlib.Core.List.{List, _++_}
 use native.Mathlib.Omega.{arith}
 use native.Mathlib.Nat.{add-zero}
 use lib.Dec.{ltb}
 use borrow.Author.Tests.{ltb-true, ltb-false}
-use lib.ListN.{length, getD, take, drop, set, length-set, length-append, List·getD-append}
-use lib.Seq.{sets, sets-eq, getD-set-same, getD-set-other, length-sets, length-take-le, getD-take, getD-append-add}
+use lib.ListN.{length, getD, take, drop, set, length-append, List·getD-append}
+use lib.Seq.{sets, sets-eq, length-take-le, getD-take, getD-append-add}
 use lib.Ieee.{Float, nan}
 use Rattle.routine.specs.declared.Shape.{Shape}
-use Rattle.routine.specs.Shapes.{shapeOf, Made, twelve}
+use Rattle.routine.specs.Shapes.{shapeOf}
 use Rattle.layout.specs.Recordings.{f64At}
-use Rattle.leaklist.specs.Code.{elevenOf, shapeIn, shapeFrom, MadeFrom, Prepared, decisionIn}
+use Rattle.leaklist.specs.Code.{elevenOf, shapeIn, shapeFrom, Prepared}
 
 -- eleven stores, one after the other, are a run of stores
 pub eleven-sets : (l : List Float) (i : ℕ) (s : Shape) →

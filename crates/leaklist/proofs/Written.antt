@@ -1,7 +1,7 @@
 -- The list of the leaks that were gathered, in the room or refused, is the list of the rules. Assumes nothing.
-use Prim.Native.Nat.{ℕ, zero, suc, _+_, _-_, _*_, _<_, _≤_}
+use Prim.Native.Nat.{ℕ, zero, suc, _+_, _-_, _<_, _≤_}
 use mathlib.Core.Path.{_≡_, refl, sym, ap, ap₂, subst, _∙_}
-use mathlib.Core.Bool.{Bool, true, false, cond}
+use mathlib.Core.Bool.{cond}
 use mathlib.Core.List.{List, [], _∷_, _++_, append-nil}
 use native.Mathlib.Omega.{arith}
 use native.Mathlib.Numerals.{add-one}
@@ -19,7 +19,7 @@ use Rattle.listing.specs.declared.Listed.{Listed}
 use Rattle.listing.specs.Turns.{each}
 use Rattle.listing.specs.Leaks.{Leak, leaks}
 use Rattle.listing.specs.Words.{firstLine, leakLine, leakLines, listText, refusedLine}
-use Rattle.listing.specs.Listing.{Whole, refused, tooShort, written, answered, listOf}
+use Rattle.listing.specs.Listing.{refused, tooShort, written, answered, listOf}
 use Rattle.listing.specs.Promise.{Promise}
 use Rattle.listing.proofs.Turns.{each-append, each-one}
 use Rattle.listing.proofs.Returned.{by-file, past-file, by-list, returned-one}

@@ -106,9 +106,9 @@ fn tallied(t: listing::Tally, d: triangles::Decision) -> listing::Tally
     requires { ⌜ t .meeting < 4294967295 ⌝ }
     ensures { λ r. ⌜ (r ≡ talliedBy t d) × (r .meeting ≤ t .meeting + 1) ⌝ }
 {
-    listing::Tally {
-        meeting: t.meeting + one_if(meets(d)),
-    }
+    let more = one_if(meets(d));
+    let meeting = t.meeting + more;
+    listing::Tally { meeting }
 }
 
 // Triangle i with n triangles from j on, counted to t.

@@ -1,22 +1,21 @@
 -- Demand 2 of the list: a line for exactly the recordings that leak, in table order, each once, with how many of their triangle pairs meet. Assumes nothing.
-use Prim.Native.Nat.{ℕ, zero, suc, _+_, _<_, _≤_}
-use mathlib.Core.Path.{_≡_, refl, sym, ap, ap₂, subst, _∙_}
-use mathlib.Core.Logic.{_⊎_, inl, inr, _↔_}
+use Prim.Native.Nat.{ℕ, _<_}
+use mathlib.Core.Path.{_≡_, refl, sym, ap, subst, _∙_}
+use mathlib.Core.Logic.{inl, inr}
 use mathlib.Core.Bool.{Bool, true, false}
-use mathlib.Core.List.{List, [], _∷_, map, List·Memᴰ}
+use mathlib.Core.List.{List, map, List·Memᴰ}
 use native.Mathlib.Omega.{arith}
 use lib.Dec.{ltb}
 use borrow.Author.Tests.{ltb-true, ltb-false, lt-ltb, eqb-true, eq-eqb}
 use lib.ListN.{length, getD, length-map}
-use Rattle.floats.specs.Lists.{filter, count}
+use Rattle.floats.specs.Lists.{count}
 use Rattle.triangles.specs.Decision.{meets}
 use Rattle.layout.specs.Parts.{countOf, entryAt}
-use Rattle.layout.specs.Layout.{Layout}
-use Rattle.listing.specs.Turns.{upTo, each}
-use Rattle.listing.specs.Pairs.{isTest, isTraining, decisionAt, decisions, tallyOf}
-use Rattle.listing.specs.Leaks.{Leak, tests, trainings, recordingPairs, pairsMeeting, isLeak, leakPairs, leakOf, leaks}
-use Rattle.listing.specs.Demand.{Leaking, Before, AllDecided, lineFor, noLeak, Demand2, DemandTwo, ByIds, LinesById}
-use Rattle.listing.proofs.Turns.{below, reached, kept, passed, mapped, unmapped, in-each, of-each, Sorted, sorted-filter, sorted-map, sorted-each, sorted-upTo, sorted-at, member-at, map-at}
+use Rattle.listing.specs.Turns.{upTo}
+use Rattle.listing.specs.Pairs.{isTest, isTraining, decisions}
+use Rattle.listing.specs.Leaks.{tests, trainings, recordingPairs, pairsMeeting, isLeak, leakPairs, leakOf, leaks}
+use Rattle.listing.specs.Demand.{Leaking, Before, AllDecided, lineFor, noLeak, DemandTwo}
+use Rattle.listing.proofs.Turns.{below, reached, kept, passed, mapped, unmapped, in-each, of-each, Sorted, sorted-filter, sorted-map, sorted-each, sorted-upTo, sorted-at, map-at}
 use Rattle.listing.proofs.Tallied.{tally-counts, counted-one, one-counted, decision-in, decision-of, how-many, in-turn}
 
 module _ (file : List ℕ) where

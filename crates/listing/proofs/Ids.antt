@@ -10,7 +10,7 @@ use lib.ListN.{length, getD}
 use Rattle.layout.specs.Parts.{countOf, entryAt}
 use Rattle.layout.specs.Layout.{Layout}
 use Rattle.listing.specs.Leaks.{Leak, recordingPairs, pairsMeeting, isLeak, leakPairs, leakOf, leaks}
-use Rattle.listing.specs.Demand.{Leaking, lineFor, noLeak, Demand2, LinesById}
+use Rattle.listing.specs.Demand.{Leaking, lineFor, noLeak, LinesById}
 use Rattle.listing.proofs.Turns.{passed, unmapped, member-at}
 use Rattle.listing.proofs.Demand.{demand2}
 

@@ -1,15 +1,14 @@
 -- From an accepted file no triangle pair is refused: its triangles are whole centimetres in range, each with an area. Assumes nothing.
-use Prim.Native.Nat.{ℕ, suc, _+_, _*_, _<_, _≤_}
-use mathlib.Core.Path.{_≡_, refl, sym, ap, ap₂, _∙_}
-use mathlib.Core.List.{List, [], _∷_, _++_, map}
+use Prim.Native.Nat.{ℕ, _+_, _*_, _<_, _≤_}
+use mathlib.Core.Path.{_≡_, refl, ap, ap₂, _∙_}
+use mathlib.Core.List.{List, _++_, map}
 use native.Mathlib.Omega.{arith}
-use lib.Ieee.{Float, binary64, ofInt}
+use lib.Ieee.{binary64, ofInt}
 use Rattle.triangles.specs.Decision.{decisionOf}
 use Rattle.layout.specs.Bytes.{i32At}
 use Rattle.layout.specs.Parts.{Triangle, numbersOf, countOf, entryAt, triangleFrom}
 use Rattle.layout.specs.Layout.{Layout}
 use Rattle.layout.specs.Recordings.{partOf, f64At}
-use Rattle.layout.specs.Inside.{Inside}
 use Rattle.layout.proofs.Inside.{parts-inside}
 use Rattle.centimetres.specs.Centimetres.{valuesOf}
 use Rattle.centimetres.proofs.Never.{always-decided}

@@ -3,21 +3,18 @@ use Prim.Native.Nat.{ℕ, _+_, _-_, _<_, _≤_}
 use mathlib.Core.Path.{_≡_, refl, sym, ap, subst, _∙_}
 use mathlib.Core.Logic.{_⊎_, inl, inr}
 use mathlib.Core.Bool.{Bool, true, false, cond}
-use mathlib.Core.List.{List, _++_}
+use mathlib.Core.List.{List}
 use native.Mathlib.Omega.{arith}
 use lib.Dec.{eqb, ltb}
-use borrow.Author.Tests.{eq-eqb, ne-eqb, eqb-true, eqb-false, lt-ltb, le-ltb, ltb-true, ltb-false}
-use lib.ListN.{length, take, drop, length-append, length-drop}
+use borrow.Author.Tests.{eqb-true, eqb-false, lt-ltb, le-ltb, ltb-true, ltb-false}
+use lib.ListN.{length, drop, length-append, length-drop}
 use lib.Seq.{take-append-seam, drop-append-seam}
-use Rattle.layout.specs.declared.Verdict.{Verdict}
 use Rattle.layout.specs.Verdict.{verdict, good}
-use Rattle.layout.specs.Layout.{Layout}
-use Rattle.layout.proofs.Returned.{number-good, number-range, is-good, has-layout, file-first, not-refused}
-use Rattle.listing.specs.declared.Listed.{Listed}
+use Rattle.layout.proofs.Returned.{number-range, is-good, has-layout, file-first, not-refused}
 use Rattle.listing.specs.Leaks.{leaks}
 use Rattle.listing.specs.Words.{listText, refusedLine}
 use Rattle.listing.specs.Listing.{Whole, refused, tooShort, written, answered, listOf, outputOf}
-use Rattle.listing.specs.Promise.{Promise, NoSecondAnswer, Demand1, ReturnedOne, Written, ReturnedTwo, Output, Outputs}
+use Rattle.listing.specs.Promise.{NoSecondAnswer, Demand1, ReturnedOne, Written, ReturnedTwo, Outputs}
 use Rattle.listing.proofs.Demand.{demand2}
 
 pub unique : NoSecondAnswer

@@ -1,6 +1,5 @@
 -- The lists worked by hand come out so: one computed test over all of them, and what it says of each. Assumes nothing.
 use Prim.Native.Nat.{ℕ}
-use mathlib.Core.Path.{_≡_}
 use mathlib.Core.Bool.{Bool, _&&_}
 use mathlib.Core.List.{List, _++_, List·Memᴰ}
 use lib.Dec.{T, eqb, eqb→eq}

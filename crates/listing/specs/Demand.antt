@@ -1,12 +1,11 @@
 -- Demand 2 of the leak list: which lines there are, in which order, and what stands in them, in facts about the file's recordings and triangles. Statements only.
-use Prim.Native.Nat.{ℕ, _+_, _*_, _<_, _≤_}
+use Prim.Native.Nat.{ℕ, _+_, _*_, _<_}
 use mathlib.Core.Path.{_≡_}
 use mathlib.Core.Logic.{_⊎_, _↔_}
 use mathlib.Core.Bool.{true}
 use mathlib.Core.List.{List, List·Memᴰ}
 use lib.ListN.{length, getD}
 use Rattle.floats.specs.Lists.{count}
-use Rattle.triangles.specs.declared.Decision.{Decision}
 use Rattle.triangles.specs.declared.Decision.the-variants.{Refused, Apart}
 use Rattle.triangles.specs.Decision.{meets}
 use Rattle.layout.specs.Parts.{countOf, entryAt}

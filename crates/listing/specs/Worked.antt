@@ -1,5 +1,5 @@
 -- Lists worked by hand: 01's example, rooms around its length, and files in which a wrong order, a wrong count, a wrong set or U for V would show. Definitions and statements.
-use Prim.Native.Nat.{ℕ, zero, suc, _+_}
+use Prim.Native.Nat.{ℕ, _+_}
 use mathlib.Core.Path.{_≡_}
 use mathlib.Core.List.{List, [], _∷_, _++_}
 use lib.ListN.{replicate}

@@ -1,7 +1,5 @@
 -- From two shapes, each that of its own vertices, come d, e and the parameters of their twelve values. Assumes nothing.
 use mathlib.Core.Path.{_≡_, refl, ap}
-use mathlib.Core.List.{List}
-use lib.Ieee.{Float}
 use Rattle.floats.specs.Way.{given, f64, at}
 use Rattle.floats.specs.declared.Position.{Position}
 use Rattle.lines.specs.declared.Params.{Params}

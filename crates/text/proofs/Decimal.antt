@@ -1,14 +1,13 @@
 -- The decimal of every number has digits only, one at least, no needless zero in front, and reads back as the number. Assumes nothing.
-use Prim.Native.Nat.{ℕ, suc, _+_, _-_, _*_, _/_, _%_, _<_, _≤_}
-use mathlib.Core.Path.{_≡_, refl, ap, ap₂, sym, subst, _∙_}
-use mathlib.Core.Logic.{_⊎_, inl, inr}
+use Prim.Native.Nat.{ℕ, _+_, _-_, _*_, _/_, _%_, _<_, _≤_}
+use mathlib.Core.Path.{_≡_, refl, ap, sym, subst, _∙_}
 use mathlib.Core.Bool.{Bool, true, false}
 use mathlib.Core.List.{List, [], _∷_, _++_, List·Memᴰ, List·Memᴰ·head as here, List·Memᴰ·tail as there}
 use native.Mathlib.Omega.{arith}
 use lib.Dec.{ltb}
 use borrow.Author.Tests.{ltb-true, ltb-false}
-use lib.ListN.{length, getD, length-append, List·getD-append}
-use Rattle.text.specs.Decimal.{digit, decimal, readOn, read, InDecimal, Decimals}
+use lib.ListN.{length, getD, List·getD-append}
+use Rattle.text.specs.Decimal.{digit, decimal, readOn, read, Decimals}
 use Rattle.text.proofs.Laws.{by-tens, under-ten, tens-and-last, width-small, width-large}
 
 abbrev IsDigit : ℕ → Type 0

@@ -1,12 +1,12 @@
 -- The decision of every list of values says the number, the ring and the area of its answer, and no second one does. Assumes nothing.
 use mathlib.Core.Path.{_≡_, refl, sym, ap, _∙_}
-use mathlib.Core.Logic.{_⊎_, inl, inr}
-use mathlib.Core.Bool.{Bool, true, false}
+use mathlib.Core.Logic.{_⊎_, inl, inr, _↔_}
+use mathlib.Core.Bool.{Bool, true, false, false≢true}
 use mathlib.Core.List.{List, [], _∷_, map}
-use Prim.Native.Nat.{ℕ, zero, suc}
+use Prim.Native.Nat.{ℕ}
 use native.Mathlib.Omega.{arith}
 use lib.Dec.{eqb}
-use borrow.Author.Tests.{eq-eqb, ne-eqb, eqb-true, eqb-false}
+use borrow.Author.Tests.{ne-eqb, eqb-true, eqb-false}
 use lib.Ieee.{Float}
 use lib.ListN.{length}
 use Rattle.floats.specs.Finite.{nought}
@@ -15,8 +15,8 @@ use Rattle.triangles.specs.declared.Answer.{Answer}
 use Rattle.triangles.specs.Pair.{ringOf}
 use Rattle.triangles.specs.Positions.{positionOf, ringPositions, areaOf}
 use Rattle.triangles.specs.Refusals.{refusalOf}
-use Rattle.triangles.specs.Answers.{refusal, answerOf, answered, refused, wholeOf}
-use Rattle.triangles.specs.Decision.{Decided, NoSecondDecision, said, saidOf, enough, answerTo, decided, decisionOf}
+use Rattle.triangles.specs.Answers.{refusal, answerOf, answered, wholeOf}
+use Rattle.triangles.specs.Decision.{Decided, NoSecondDecision, said, saidOf, enough, answerTo, decided, decisionOf, meets, MeetsExactlyIf}
 use Rattle.triangles.proofs.Rows.{answered-is, refused-is}
 
 pub unique : NoSecondDecision
@@ -56,3 +56,21 @@ says l = go (eqb (refusalOf l enough) 0) refl
 -- the promise of a decision that is the definition's
 pub keeps : (l : List Float) {r : _} → r ≡ decisionOf l → Decided l r
 keeps l h = record { result-is = h; says = ap said h ∙ says l }
+
+-- ---- when a pair meets
+meets-as : (a : Answer) → (meets (decided a) ≡ true) ↔ ((a .number ≡ 0 → ⊥) ⊎ (a .n ≡ 0 → ⊥))
+unfolding decided
+meets-as a = go (eqb (a .number) 0) refl (eqb (a .n) 0) refl
+  where
+    neither : a .number ≡ 0 → a .n ≡ 0 → (a .number ≡ 0 → ⊥) ⊎ (a .n ≡ 0 → ⊥) → ⊥
+    neither k n (inl h) = h k
+    neither k n (inr h) = h n
+
+    go : (b : Bool) → eqb (a .number) 0 ≡ b → (c : Bool) → eqb (a .n) 0 ≡ c → (meets (decided a) ≡ true) ↔ ((a .number ≡ 0 → ⊥) ⊎ (a .n ≡ 0 → ⊥))
+    go false e c f = rw e (λ h. inl (eqb-false (a .number) 0 e), λ h. refl)
+    go true e false f = rw (e, f) (λ h. inr (eqb-false (a .n) 0 f), λ h. refl)
+    go true e true f = rw (e, f) (λ h. absurd (false≢true h), λ h. absurd (neither (eqb-true (a .number) 0 e) (eqb-true (a .n) 0 f) h))
+
+pub meets-exactly : MeetsExactlyIf
+unfolding decisionOf
+meets-exactly values = meets-as (answerTo values)

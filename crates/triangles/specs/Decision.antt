@@ -1,5 +1,6 @@
 -- 01, "The leak list": what is decided of a pair of triangles, and when it meets. Whatever is asked of pairs above the triangles is asked of this decision. Definitions and statements.
 use mathlib.Core.Path.{_≡_}
+use mathlib.Core.Logic.{_⊎_, _↔_}
 use mathlib.Core.Bool.{Bool, true, false, not, cond}
 use mathlib.Core.List.{List, [], _∷_}
 use Prim.Native.Nat.{ℕ}
@@ -27,7 +28,7 @@ said Apart = record { number = 0; ring = false; area = nought }
 abbrev pub saidOf : Answer → Said
 saidOf a = record { number = a .number; ring = not (eqb (a .n) 0); area = a .area }
 
--- a triangle pair meets if the ring is not empty; a pair that is refused counts as meeting
+-- two triangles meet where the ring has corners, and also where the pair is refused
 abbrev pub meets : Decision → Bool
 meets (Refused k) = true
 meets (Ring a) = true
@@ -57,3 +58,7 @@ pub record Decided (values : List Float) (result : Decision) : Type 0 where
 -- no second decision meets it
 abbrev pub NoSecondDecision : Type 0
 NoSecondDecision = (values : List Float) (r s : Decision) → Decided values r → Decided values s → r ≡ s
+
+-- a pair meets exactly if its answer is a refusal or has corners
+abbrev pub MeetsExactlyIf : Type 0
+MeetsExactlyIf = (values : List Float) → (meets (decisionOf values) ≡ true) ↔ ((answerTo values .number ≡ 0 → ⊥) ⊎ (answerTo values .n ≡ 0 → ⊥))

@@ -24,11 +24,11 @@ pub fn unwritten(length: usize) -> Vec<u8> {
 }
 
 /// One byte too few for the list, and as many as it has; then once in `many` each of these: two too
-/// few, one and two more, from none to ten, NULL, as many as any list can need, and by chance. Of a
-/// refused file the list's length is 0.
+/// few, one and two more, NULL, as many as any list can need, any, and half of those from none to ten.
+/// Of a refused file, which is soon done with, the list's length is 0, and none of these is halved.
 pub fn rooms_for(list: usize, many: usize, random: &mut Random) -> Vec<Room> {
     let mut others = vec![list.saturating_sub(2), list + 1, list + 2, MOST_BYTES];
-    others.extend(0..=10);
+    others.extend((0..=10).filter(|_| list == 0 || random.once_in(2)));
     others.push(random.below(list + 1));
     others.push(list + random.below(2_000));
     others.retain(|_| random.once_in(many));

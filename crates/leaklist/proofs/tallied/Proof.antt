@@ -14,8 +14,8 @@ meets-requires c κs = search needs
 one-if-requires : tie.Need-one-if-requires
 one-if-requires c κs = search needs
 
-add-t5 : tie.Need-add-t5
-add-t5 c = search needs
+add-meeting : tie.Need-add-meeting
+add-meeting c = search needs
 
 returns : tie.Need-returns
 unfolding tallyBy
@@ -24,4 +24,4 @@ returns c = let g = c .before .before .before .args in
     (ap (λ n. tallyBy (g .t .meeting + n)) (h .0 ∙ ap once (c .before .before .meets .ensures)), omega (arith, h .1))
 
 pub tallied-spec : {M : Type 1} → statement M
-tallied-spec = tie.close (tie.spec meets-requires one-if-requires add-t5 returns)
+tallied-spec = tie.close (tie.spec meets-requires one-if-requires add-meeting returns)

@@ -2,7 +2,7 @@
 use borrow.Author.Needs.{needs}
 use denote.Ref.{now}
 use lib.Seq.{sets}
-use mathlib.Core.Path.{ap, sym, _∙_}
+use mathlib.Core.Path.{ap, _∙_}
 use native.Mathlib.Omega.{arith}
 use Rattle.text.proofs.Laws.{all-digits, put-nothing, put-all}
 use Rattle.text.specs.Code.{digits}

@@ -1,6 +1,5 @@
 -- From the last digit to the first, what is left to put gives the room that is to be.
-use Prim.Native.Nat.{_≤_, _+_}
-use Prim.Native.Nat.{ℕ}
+use Prim.Native.Nat.{_≤_}
 use borrow.Author.Needs.{needs}
 use lib.ListN.{length, length-set}
 use lib.Seq.{sets}
