@@ -128,6 +128,10 @@ module _ (file : List ℕ) where
   unfolding leaks
   line k h = map-at (leakOf file) (leakPairs file) k noLeak (0, 0) h
 
+  named : (i j : ℕ) → (leakOf file (i, j) .test ≡ entryAt file i .id) × (leakOf file (i, j) .train ≡ entryAt file j .id) × (leakOf file (i, j) .pairs ≡ pairsMeeting file (i, j))
+  unfolding leakOf
+  named i j = (refl, refl, refl)
+
   no-held-back : (i j k : ℕ) → List·Memᴰ (i, j) (leakPairs file) → entryAt file k .set ≡ 2 → (i ≡ k → ⊥) × (j ≡ k → ⊥)
   no-held-back i j k m e =
       let h = leaking i j m in
@@ -145,6 +149,7 @@ demand2 file = record {
   once = once file;
   asMany = as-many file;
   line = line file;
+  named = named file;
   counted = counted file;
   decided = all-decided file;
   noHeldBack = no-held-back file;

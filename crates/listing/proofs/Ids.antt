@@ -1,6 +1,7 @@
 -- Of a good file ids stand for recordings: what holds of the recordings of a line holds of the ids in it. Assumes nothing.
 use Prim.Native.Nat.{ℕ, _<_}
 use mathlib.Core.Path.{_≡_, refl, sym, ap, ap₂, subst, _∙_}
+use mathlib.Core.Logic.{_↔_}
 use mathlib.Core.Bool.{Bool, true, false}
 use mathlib.Core.List.{List, List·Memᴰ}
 use native.Mathlib.Omega.{arith}
@@ -11,7 +12,7 @@ use Rattle.layout.specs.Parts.{countOf, entryAt}
 use Rattle.layout.specs.Layout.{Layout}
 use Rattle.listing.specs.Leaks.{Leak, recordingPairs, pairsMeeting, isLeak, leakPairs, leakOf, leaks}
 use Rattle.listing.specs.Demand.{Leaking, lineFor, noLeak, LinesById}
-use Rattle.listing.proofs.Turns.{passed, unmapped, member-at}
+use Rattle.listing.proofs.Turns.{passed, unmapped, member-at, mapped}
 use Rattle.listing.proofs.Demand.{demand2}
 
 module _ (file : List ℕ) (good : Layout file) where
@@ -73,5 +74,14 @@ module _ (file : List ℕ) (good : Layout file) where
   some : (l : Leak) → List·Memᴰ l (leaks file) → 0 < l .pairs
   some l m = let r = of-line m in subst (λ n. 0 < n) (sym (ap (λ l. l .pairs) (r .2) ∙ pairs-of (r .0))) (some-pair (r .1))
 
+  exactly-if : (t r : ℕ) → ((l : Leak) × List·Memᴰ l (leaks file) × (l .test ≡ t) × (l .train ≡ r)) ↔ ((i : ℕ) × (j : ℕ) × Leaking file i j × (entryAt file i .id ≡ t) × (entryAt file j .id ≡ r))
+  unfolding leaks
+  exactly-if t r = (
+    λ m. let q = of-line (m .1) in let p = q .0 in
+        (p .0, p .1, leaks-at p (q .1), sym (test-of p) ∙ (ap (λ l. l .test) (sym (q .2)) ∙ m .2), sym (train-of p) ∙ (ap (λ l. l .train) (sym (q .2)) ∙ m .3)),
+    λ m. let p : ℕ × ℕ = (m .0, m .1) in
+        (leakOf file p, mapped (leakOf file) (leakPairs file) (demand2 file .exactlyIf (m .0) (m .1) .1 (m .2)), test-of p ∙ m .3, train-of p ∙ m .4),
+  )
+
 pub lines-by-id : LinesById
-lines-by-id file good = record { noHeldBack = no-held-back file good; once = once file good; some = some file good }
+lines-by-id file good = record { noHeldBack = no-held-back file good; once = once file good; exactlyIf = exactly-if file good; some = some file good }

@@ -4,5 +4,6 @@ pub mod Demand
 pub mod Ids
 pub mod Never
 pub mod Returned
+pub mod Read
 pub mod Worked
 pub mod Enough

@@ -1,6 +1,6 @@
 -- From an accepted file no triangle pair is refused: its triangles are whole centimetres in range, each with an area. Assumes nothing.
 use Prim.Native.Nat.{ℕ, _+_, _*_, _<_, _≤_}
-use mathlib.Core.Path.{_≡_, refl, ap, ap₂, _∙_}
+use mathlib.Core.Path.{_≡_, sym, refl, ap, ap₂, _∙_}
 use mathlib.Core.List.{List, _++_, map}
 use native.Mathlib.Omega.{arith}
 use lib.Ieee.{binary64, ofInt}
@@ -14,7 +14,7 @@ use Rattle.centimetres.specs.Centimetres.{valuesOf}
 use Rattle.centimetres.proofs.Never.{always-decided}
 use Rattle.centimetres.proofs.Passed.{in-good-files}
 use Rattle.listing.specs.Pairs.{placeIn, coordinatesAt, decisionAt}
-use Rattle.listing.specs.Demand.{NoneRefused}
+use Rattle.listing.specs.Demand.{DecidedOfParts, NoneRefused}
 use Rattle.listing.proofs.Turns.{map-append}
 
 module _ (file : List ℕ) (good : Layout file) where
@@ -39,9 +39,10 @@ module _ (file : List ℕ) (good : Layout file) where
   numbers i a h k =
       rw (first i a h k, number i a 4 h k (omega arith), number i a 8 h k (omega arith), number i a 12 h k (omega arith), number i a 16 h k (omega arith), number i a 20 h k (omega arith)) refl
 
+pub decided-of-parts : DecidedOfParts
+decided-of-parts file good i j a b hi hj ha hb =
+    unfold decisionAt in sym (ap decisionOf (map-append (ofInt binary64) (numbersOf (tri file good i a)) (numbersOf (tri file good j b)) ∙ ap₂ _++_ (numbers file good i a hi ha) (numbers file good j b hj hb)))
+
 pub none-refused : NoneRefused
 none-refused file good i j a b hi hj ha hb k e =
-    always-decided (tri file good i a) (tri file good j b) (in-good-files file i a good hi ha) (in-good-files file j b good hj hb) k (same ∙ e)
-  where
-    same : decisionOf (valuesOf (tri file good i a) (tri file good j b)) ≡ decisionAt file (entryAt file i) (entryAt file j) a b
-    same = unfold decisionAt in ap decisionOf (map-append (ofInt binary64) (numbersOf (tri file good i a)) (numbersOf (tri file good j b)) ∙ ap₂ _++_ (numbers file good i a hi ha) (numbers file good j b hj hb))
+    always-decided (tri file good i a) (tri file good j b) (in-good-files file i a good hi ha) (in-good-files file j b good hj hb) k (sym (decided-of-parts file good i j a b hi hj ha hb) ∙ e)

@@ -7,8 +7,10 @@ use mathlib.Core.List.{List, List·Memᴰ}
 use lib.ListN.{length, getD}
 use Rattle.floats.specs.Lists.{count}
 use Rattle.triangles.specs.declared.Decision.the-variants.{Refused, Apart}
-use Rattle.triangles.specs.Decision.{meets}
-use Rattle.layout.specs.Parts.{countOf, entryAt}
+use Rattle.triangles.specs.Decision.{meets, decisionOf}
+use Rattle.centimetres.specs.Centimetres.{valuesOf}
+use Rattle.layout.specs.Recordings.{partOf}
+use Rattle.layout.specs.Parts.{countOf, entryAt, triangleFrom}
 use Rattle.layout.specs.Layout.{Layout}
 use Rattle.listing.specs.Pairs.{decisionAt, decisions}
 use Rattle.listing.specs.Leaks.{Leak, pairsMeeting, leakPairs, leakOf, leaks}
@@ -50,6 +52,7 @@ pub record Demand2 (file : List ℕ) : Type 0 where
   -- a line has the ids of its two recordings and N, and N is how many of their triangle pairs meet
   pub asMany : length (leaks file) ≡ length (leakPairs file)
   pub line : (k : ℕ) → k < length (leakPairs file) → getD (leaks file) k noLeak ≡ leakOf file (lineFor file k)
+  pub named : (i j : ℕ) → (leakOf file (i, j) .test ≡ entryAt file i .id) × (leakOf file (i, j) .train ≡ entryAt file j .id) × (leakOf file (i, j) .pairs ≡ pairsMeeting file (i, j))
   pub counted : (i j : ℕ) → pairsMeeting file (i, j) ≡ count meets (decisions file (entryAt file i) (entryAt file j))
   pub decided : (i j : ℕ) → AllDecided file i j
   -- a held back recording has no part in any line
@@ -64,11 +67,17 @@ pub record ByIds (file : List ℕ) : Type 0 where
   pub noHeldBack : (l : Leak) → List·Memᴰ l (leaks file) → (k : ℕ) → k < countOf file → entryAt file k .set ≡ 2 → (l .test ≡ entryAt file k .id → ⊥) × (l .train ≡ entryAt file k .id → ⊥)
   -- no two lines name the same two ids
   pub once : (k l : ℕ) → k < length (leaks file) → l < length (leaks file) → getD (leaks file) k noLeak .test ≡ getD (leaks file) l noLeak .test → getD (leaks file) k noLeak .train ≡ getD (leaks file) l noLeak .train → k ≡ l
+  -- a line names two ids if and only if they are those of two recordings that leak
+  pub exactlyIf : (t r : ℕ) → ((l : Leak) × List·Memᴰ l (leaks file) × (l .test ≡ t) × (l .train ≡ r)) ↔ ((i : ℕ) × (j : ℕ) × Leaking file i j × (entryAt file i .id ≡ t) × (entryAt file j .id ≡ r))
   -- every line has an N of at least one
   pub some : (l : Leak) → List·Memᴰ l (leaks file) → 0 < l .pairs
 
 abbrev pub LinesById : Type 0
 LinesById = (file : List ℕ) → Layout file → ByIds file
+
+-- what is decided of two triangles of a good file is decided of triangle a of the part of recording i, as U, and of triangle b of that of recording j, as V, each whole number as f64
+abbrev pub DecidedOfParts : Type 0
+DecidedOfParts = (file : List ℕ) → Layout file → (i j a b : ℕ) → i < countOf file → j < countOf file → a < entryAt file i .count → b < entryAt file j .count → decisionAt file (entryAt file i) (entryAt file j) a b ≡ decisionOf (valuesOf (triangleFrom (partOf file i) (24 * a)) (triangleFrom (partOf file j) (24 * b)))
 
 -- from an accepted file no triangle pair is refused
 abbrev pub NoneRefused : Type 0

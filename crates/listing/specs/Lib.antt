@@ -2,6 +2,7 @@ pub mod Turns
 pub mod Pairs
 pub mod Leaks
 pub mod Words
+pub mod Read
 pub mod Listing
 pub mod Promise
 pub mod Demand

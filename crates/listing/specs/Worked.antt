@@ -43,6 +43,13 @@ line t r n = lineWith ((48 + t) ∷ []) ((48 + r) ∷ []) ((48 + n) ∷ [])
 abbrev pub refused13at72 : List ℕ
 refused13at72 = 114 ∷ 101 ∷ 102 ∷ 117 ∷ 115 ∷ 101 ∷ 100 ∷ 32 ∷ 49 ∷ 51 ∷ 32 ∷ 97 ∷ 116 ∷ 32 ∷ 55 ∷ 50 ∷ 10 ∷ []
 
+-- `refused 11 at 0`, and `leaks 10`
+abbrev pub refused11at0 : List ℕ
+refused11at0 = 114 ∷ 101 ∷ 102 ∷ 117 ∷ 115 ∷ 101 ∷ 100 ∷ 32 ∷ 49 ∷ 49 ∷ 32 ∷ 97 ∷ 116 ∷ 32 ∷ 48 ∷ 10 ∷ []
+
+abbrev pub firstTen : List ℕ
+firstTen = 108 ∷ 101 ∷ 97 ∷ 107 ∷ 115 ∷ 32 ∷ 49 ∷ 48 ∷ 10 ∷ []
+
 -- ---- files
 -- U of cases E and F; and a U that has no ring with V of case D, though V taken as U would have one with it
 abbrev pub uE : List ℕ
@@ -66,6 +73,28 @@ mixed =
 
 abbrev pub oneWay : List ℕ
 oneWay = pairOf v uOneWay seven nine
+
+-- (6,0),(4,1),(4,−1): its edge from (4,1) to (4,−1) goes through V's corner (4,0), a tie. y, the lower line, is met first from (4,1), and then all of the edge is outside V; from (4,−1) it would be met at the corner
+abbrev pub uTurned : List ℕ
+uTurned = six (small 6) (small 0) (small 4) (small 1) (small 4) minusOne
+
+-- (20,20),(21,20),(20,21), far from all others
+abbrev pub vFar : List ℕ
+vFar = six (small 20) (small 20) (small 21) (small 20) (small 20) (small 21)
+
+-- test 9 with U of E and of D, training 7 with a far V and with V, test 4 with the turned U: only the second with the second meets
+abbrev pub seconds : List ℕ
+seconds = uE ++ (u ++ (vFar ++ (v ++ (uTurned ++ (changed 9 0 2 0 1 0 ++ (changed 7 48 2 0 0 0 ++ (changed 4 96 1 0 1 0 ++ trailer 120 3 168)))))))
+
+-- tests 1 and 2 with trainings 3 to 7, U and V of D each: ten lines, 264 bytes
+abbrev pub tenLines : List ℕ
+tenLines =
+    u ++ (u ++ (v ++ (v ++ (v ++ (v ++ (v
+    ++ (changed 1 0 1 0 1 0 ++ (changed 2 24 1 0 1 0 ++ (changed 3 48 1 0 0 0 ++ (changed 4 72 1 0 0 0 ++ (changed 5 96 1 0 0 0 ++ (changed 6 120 1 0 0 0 ++ (changed 7 144 1 0 0 0
+    ++ (small 168 ++ (small 7 ++ (8 ∷ 1 ∷ 0 ∷ 0 ∷ []))))))))))))))))
+
+abbrev pub fiveLines : ℕ → List ℕ
+fiveLines t = line t 3 1 ++ (line t 4 1 ++ (line t 5 1 ++ (line t 6 1 ++ line t 7 1)))
 
 -- test 4,294,967,295 and training 10
 abbrev pub largeIds : List ℕ
@@ -100,7 +129,12 @@ cases =
     ∷ listed oneWay 8 8 0 (first 0) 0
     ∷ listed largeIds 41 41 1 (first 1 ++ lineWith (52 ∷ 50 ∷ 57 ∷ 52 ∷ 57 ∷ 54 ∷ 55 ∷ 50 ∷ 57 ∷ 53 ∷ []) (49 ∷ 48 ∷ []) (49 ∷ [])) 0
     ∷ listed twelve 32 32 1 (first 1 ++ lineWith (57 ∷ []) (55 ∷ []) (49 ∷ 50 ∷ [])) 0
+    -- of several triangles the second with the second, and a tie that turns on the order of U's vertices
+    ∷ listed seconds 31 31 1 (first 1 ++ line 9 7 1) 0
+    -- ten lines
+    ∷ listed tenLines 239 239 10 (firstTen ++ (fiveLines 1 ++ fiveLines 2)) 0
     -- a refused file, before the room is looked at
     ∷ notListed tooMany 40 13 72 refused13at72
     ∷ notListed tooMany 0 13 72 refused13at72
+    ∷ notListed [] 40 11 0 refused11at0
     ∷ []

@@ -22,3 +22,7 @@ behind room at text = cond (fits room at text) (at + length text) at
 pub record Put (room : List ℕ) (at : ℕ) (text : List ℕ) (after : List ℕ) (next : ℕ) : Type 0 where
   pub after-is : after ≡ laid room at text
   pub next-is : next ≡ behind room at text
+
+-- no second room and no second place meets it
+abbrev pub NoSecondPut : Type 0
+NoSecondPut = (room : List ℕ) (at : ℕ) (text a b : List ℕ) (m n : ℕ) → Put room at text a m → Put room at text b n → (a ≡ b) × (m ≡ n)

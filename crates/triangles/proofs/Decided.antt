@@ -3,10 +3,10 @@ use mathlib.Core.Path.{_≡_, refl, sym, ap, _∙_}
 use mathlib.Core.Logic.{_⊎_, inl, inr, _↔_}
 use mathlib.Core.Bool.{Bool, true, false, false≢true}
 use mathlib.Core.List.{List, [], _∷_, map}
-use Prim.Native.Nat.{ℕ}
+use Prim.Native.Nat.{ℕ, _≤_}
 use native.Mathlib.Omega.{arith}
 use lib.Dec.{eqb}
-use borrow.Author.Tests.{ne-eqb, eqb-true, eqb-false}
+use borrow.Author.Tests.{ne-eqb, eqb-true, eqb-false, le-ltb}
 use lib.Ieee.{Float}
 use lib.ListN.{length}
 use Rattle.floats.specs.Finite.{nought}
@@ -14,9 +14,9 @@ use Rattle.ring.specs.Places.{Place}
 use Rattle.triangles.specs.declared.Answer.{Answer}
 use Rattle.triangles.specs.Pair.{ringOf}
 use Rattle.triangles.specs.Positions.{positionOf, ringPositions, areaOf}
-use Rattle.triangles.specs.Refusals.{refusalOf}
+use Rattle.triangles.specs.Refusals.{Row, lengths, coordinates, wayToD, dZero, wayToE, eZero, wayToParameter, wayToPairTest, wayToPosition, wayToArea, table, rowTest, firstOf, refusalOf}
 use Rattle.triangles.specs.Answers.{refusal, answerOf, answered, wholeOf}
-use Rattle.triangles.specs.Decision.{Decided, NoSecondDecision, said, saidOf, enough, answerTo, decided, decisionOf, meets, MeetsExactlyIf}
+use Rattle.triangles.specs.Decision.{Decided, NoSecondDecision, said, saidOf, enough, answerTo, decided, decisionOf, meets, MeetsExactlyIf, AnyRoom}
 use Rattle.triangles.proofs.Rows.{answered-is, refused-is}
 
 pub unique : NoSecondDecision
@@ -74,3 +74,37 @@ meets-as a = go (eqb (a .number) 0) refl (eqb (a .n) 0) refl
 pub meets-exactly : MeetsExactlyIf
 unfolding decisionOf
 meets-exactly values = meets-as (answerTo values)
+
+-- ---- the room
+module _ (l room : List Float) (long : 12 ≤ length room) where
+  row-same : (row : Row) → rowTest row l room ≡ rowTest row l enough
+  unfolding rowTest
+  row-same lengths = rw (le-ltb (length room) 12 long) refl
+  row-same coordinates = refl
+  row-same wayToD = refl
+  row-same dZero = refl
+  row-same wayToE = refl
+  row-same eZero = refl
+  row-same wayToParameter = refl
+  row-same wayToPairTest = refl
+  row-same wayToPosition = refl
+  row-same wayToArea = refl
+
+  first-same : (rows : List Row) → firstOf rows l room ≡ firstOf rows l enough
+  unfolding firstOf
+  first-same [] = refl
+  first-same (row ∷ rows) = rw (row-same row, first-same rows) refl
+
+  refusal-same : refusalOf l room ≡ refusalOf l enough
+  unfolding refusalOf
+  refusal-same = first-same table
+
+  answer-same : wholeOf l room .answer ≡ answerTo l
+  answer-same = go (eqb (refusalOf l enough) 0) refl
+    where
+      go : (b : Bool) → eqb (refusalOf l enough) 0 ≡ b → wholeOf l room .answer ≡ wholeOf l enough .answer
+      go true e = let z = eqb-true (refusalOf l enough) 0 e in rw (answered-is l room (refusal-same ∙ z), answered-is l enough z) (unfold answered in refl)
+      go false e = let h = eqb-false (refusalOf l enough) 0 e in rw (refused-is l room (λ z. h (sym refusal-same ∙ z)), refused-is l enough h, refusal-same) refl
+
+pub any-room : AnyRoom
+any-room = answer-same

@@ -3,8 +3,9 @@ use mathlib.Core.Path.{_≡_}
 use mathlib.Core.Logic.{_⊎_, _↔_}
 use mathlib.Core.Bool.{Bool, true, false, not, cond}
 use mathlib.Core.List.{List, [], _∷_}
-use Prim.Native.Nat.{ℕ}
+use Prim.Native.Nat.{ℕ, _≤_}
 use lib.Dec.{eqb}
+use lib.ListN.{length}
 use lib.Ieee.{Float}
 use Rattle.floats.specs.Finite.{nought}
 use Rattle.triangles.specs.declared.Answer.{Answer}
@@ -62,3 +63,7 @@ NoSecondDecision = (values : List Float) (r s : Decision) → Decided values r �
 -- a pair meets exactly if its answer is a refusal or has corners
 abbrev pub MeetsExactlyIf : Type 0
 MeetsExactlyIf = (values : List Float) → (meets (decisionOf values) ≡ true) ↔ ((answerTo values .number ≡ 0 → ⊥) ⊎ (answerTo values .n ≡ 0 → ⊥))
+
+-- whatever room is lent, if it is long enough, the answer is the one that is decided by
+abbrev pub AnyRoom : Type 0
+AnyRoom = (values room : List Float) → 12 ≤ length room → wholeOf values room .answer ≡ answerTo values

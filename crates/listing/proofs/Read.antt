@@ -1,0 +1,113 @@
+-- The list is read back from its text, and a refusal from its line. Assumes nothing.
+use Prim.Native.Nat.{ℕ, suc, _+_, _-_, _*_, _<_, _≤_}
+use mathlib.Core.Path.{_≡_, refl, sym, ap, ap₂, _∙_}
+use mathlib.Core.Bool.{Bool, true, false, _&&_, cond}
+use mathlib.Core.List.{List, [], _∷_, _++_, append-assoc, append-nil, List·Memᴰ, List·Memᴰ·head as here, List·Memᴰ·tail as there}
+use native.Mathlib.Omega.{arith}
+use lib.Dec.{eqb, leb}
+use borrow.Author.Tests.{ne-eqb, le-leb}
+use lib.ListN.{length}
+use Rattle.floats.specs.Lists.{count}
+use Rattle.floats.proofs.Lists.{count-append}
+use Rattle.layout.specs.declared.Verdict.{Verdict}
+use Rattle.text.specs.Decimal.{decimal, readOn}
+use Rattle.text.proofs.Decimal.{decimals}
+use Rattle.listing.specs.Turns.{each}
+use Rattle.listing.specs.Leaks.{Leak, leaks}
+use Rattle.listing.specs.Words.{leaksWord, testWord, trainWord, pairsWord, refusedWord, atWord, feed, firstLine, leakLine, leakLines, listText, refusedLine}
+use Rattle.listing.specs.Read.{isDigit, numbersBy, numbersIn, feeds, threeOf, ReadBack, ListsReadBack, RefusalReadBack, RefusalsReadBack}
+
+abbrev AllDigits : List ℕ → Type 0
+AllDigits text = (b : ℕ) → List·Memᴰ b text → (48 ≤ b) × (b ≤ 57)
+
+is-digit : (b : ℕ) → 48 ≤ b → b ≤ 57 → isDigit b ≡ true
+is-digit b h k = rw (le-leb 48 b h, le-leb b 57 k) refl
+
+none-before : (m : ℕ) → 0 + m ≡ m
+none-before m = omega arith
+
+-- ---- a run of digits
+run : (n : ℕ) (xs ys : List ℕ) → AllDigits xs → numbersBy true n (xs ++ ys) ≡ numbersBy true (readOn n xs) ys
+unfolding numbersBy readOn
+run n [] ys d = refl
+run n (x ∷ xs) ys d = let h = d x (here refl) in rw (is-digit x (h .0) (h .1)) (run (10 * n + (x - 48)) xs ys (λ b m. d b (there m)))
+
+begun : (xs ys : List ℕ) → AllDigits xs → 0 < length xs → numbersBy false 0 (xs ++ ys) ≡ numbersBy true (readOn 0 xs) ys
+unfolding numbersBy readOn
+begun [] ys d h = absurd (omega (arith, h))
+begun (x ∷ xs) ys d h = let g = d x (here refl) in rw (is-digit x (g .0) (g .1)) (run (x - 48) xs ys (λ b m. d b (there m)) ∙ ap (λ k. numbersBy true (readOn k xs) ys) (sym (none-before (x - 48))))
+
+number : (n : ℕ) (ys : List ℕ) → numbersBy false 0 (decimal n ++ ys) ≡ numbersBy true n ys
+number n ys = let d = decimals n in begun (decimal n) ys (d .digits) (d .some) ∙ ap (λ k. numbersBy true k ys) (d .readsBack)
+
+-- ---- no line feed in a number
+no-feed : (xs : List ℕ) → AllDigits xs → feeds xs ≡ 0
+unfolding count
+no-feed [] d = refl
+no-feed (x ∷ xs) d = let h = d x (here refl) in let g = h .0 in rw (ne-eqb 10 x (λ e. omega (arith, e, g)), no-feed xs (λ b m. d b (there m))) refl
+
+feeds-number : (n : ℕ) (ys : List ℕ) → feeds (decimal n ++ ys) ≡ feeds ys
+feeds-number n ys = count-append (eqb 10) (decimal n) ys ∙ (ap (λ k. k + feeds ys) (no-feed (decimal n) (decimals n .digits)) ∙ none-before (feeds ys))
+
+-- ---- a line is put together from the left; here it is taken apart from the left
+five : (a b c d e : List ℕ) → a ++ b ++ c ++ d ++ e ≡ a ++ (b ++ (c ++ (d ++ e)))
+five a b c d e = append-assoc (a ++ b ++ c) d e ∙ (append-assoc (a ++ b) c (d ++ e) ∙ append-assoc a b (c ++ (d ++ e)))
+
+eight : (a b c d e f g h : List ℕ) → a ++ b ++ c ++ d ++ e ++ f ++ g ++ h ≡ a ++ (b ++ (c ++ (d ++ (e ++ (f ++ (g ++ h))))))
+eight a b c d e f g h = append-assoc (a ++ b ++ c ++ d ++ e ++ f) g h ∙ (append-assoc (a ++ b ++ c ++ d ++ e) f (g ++ h) ∙ (append-assoc (a ++ b ++ c ++ d) e (f ++ (g ++ h)) ∙ five a b c d (e ++ (f ++ (g ++ h)))))
+
+-- ---- the leak lines
+line-apart : (l : Leak) (ys : List ℕ) → leakLine l ++ ys ≡ testWord ++ (decimal (l .test) ++ (trainWord ++ (decimal (l .train) ++ (pairsWord ++ (decimal (l .pairs) ++ (feed ++ ys))))))
+unfolding leakLine
+line-apart l ys = eight testWord (decimal (l .test)) trainWord (decimal (l .train)) pairsWord (decimal (l .pairs)) feed ys
+
+leak-numbers : (l : Leak) (ys : List ℕ) → numbersIn (leakLine l ++ ys) ≡ l .test ∷ l .train ∷ l .pairs ∷ numbersIn ys
+unfolding numbersBy
+leak-numbers l ys = ap numbersIn (line-apart l ys) ∙ (number (l .test) _ ∙ ap (λ k. l .test ∷ k) (number (l .train) _ ∙ ap (λ k. l .train ∷ k) (number (l .pairs) (feed ++ ys))))
+
+leak-feeds : (l : Leak) (ys : List ℕ) → feeds (leakLine l ++ ys) ≡ suc (feeds ys)
+unfolding count
+leak-feeds l ys = ap feeds (line-apart l ys) ∙ (feeds-number (l .test) _ ∙ (feeds-number (l .train) _ ∙ feeds-number (l .pairs) (feed ++ ys)))
+
+lines-numbers : (ls : List Leak) → numbersIn (leakLines ls) ≡ each threeOf ls
+unfolding leakLines each numbersBy
+lines-numbers [] = refl
+lines-numbers (l ∷ ls) = leak-numbers l (leakLines ls) ∙ ap (λ k. l .test ∷ l .train ∷ l .pairs ∷ k) (lines-numbers ls)
+
+lines-feeds : (ls : List Leak) → feeds (leakLines ls) ≡ length ls
+unfolding leakLines each count
+lines-feeds [] = refl
+lines-feeds (l ∷ ls) = leak-feeds l (leakLines ls) ∙ ap suc (lines-feeds ls)
+
+-- ---- the list
+list-apart : (k : ℕ) (ls : List Leak) → firstLine k ++ leakLines ls ++ [] ≡ leaksWord ++ (decimal k ++ (feed ++ leakLines ls))
+unfolding firstLine
+list-apart k ls = append-nil (firstLine k ++ leakLines ls) ∙ (append-assoc (leaksWord ++ decimal k) feed (leakLines ls) ∙ append-assoc leaksWord (decimal k) (feed ++ leakLines ls))
+
+list-numbers : (k : ℕ) (ls : List Leak) → numbersIn (firstLine k ++ leakLines ls ++ []) ≡ k ∷ each threeOf ls
+unfolding numbersBy
+list-numbers k ls = ap numbersIn (list-apart k ls) ∙ (number k (feed ++ leakLines ls) ∙ ap (λ r. k ∷ r) (lines-numbers ls))
+
+list-feeds : (k : ℕ) (ls : List Leak) → feeds (firstLine k ++ leakLines ls ++ []) ≡ length ls + 1
+unfolding count
+list-feeds k ls = ap feeds (list-apart k ls) ∙ (feeds-number k (feed ++ leakLines ls) ∙ (ap suc (lines-feeds ls) ∙ one-more (length ls)))
+  where
+    one-more : (m : ℕ) → suc m ≡ m + 1
+    one-more m = omega arith
+
+pub lists-read-back : ListsReadBack
+unfolding listText
+lists-read-back file = record { numbers = list-numbers (length (leaks file)) (leaks file); lines = list-feeds (length (leaks file)) (leaks file) }
+
+-- ---- a refusal
+refusal-numbers : (n p : ℕ) → numbersIn (refusedWord ++ decimal n ++ atWord ++ decimal p ++ feed) ≡ n ∷ p ∷ []
+unfolding numbersBy
+refusal-numbers n p = ap numbersIn (five refusedWord (decimal n) atWord (decimal p) feed) ∙ (number n _ ∙ ap (λ k. n ∷ k) (number p feed))
+
+refusal-feeds : (n p : ℕ) → feeds (refusedWord ++ decimal n ++ atWord ++ decimal p ++ feed) ≡ 1
+unfolding count
+refusal-feeds n p = ap feeds (five refusedWord (decimal n) atWord (decimal p) feed) ∙ (feeds-number n _ ∙ feeds-number p feed)
+
+pub refusals-read-back : RefusalsReadBack
+unfolding refusedLine
+refusals-read-back v = record { numbers = refusal-numbers (v .number) (v .place); lines = refusal-feeds (v .number) (v .place) }
