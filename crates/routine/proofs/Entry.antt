@@ -35,7 +35,7 @@ use Rattle.triangles.proofs.Told.{told-area}
 use Rattle.routine.proofs.Cascade.{backFine, short, by-front, back-fine, back-not-fine, keeps-refusal}
 use Rattle.routine.proofs.Front.{by-clear}
 use Rattle.routine.proofs.Edges.{signs-are, befores-are, tests-fine, ring-is, beyond-nothing, beyond-untested}
-use Rattle.routine.proofs.Spots.{params, spotFine, ways-fine, fine-ways}
+use Rattle.routine.proofs.Crossings.{params, spotFine, ways-fine, fine-ways}
 use Rattle.routine.proofs.Laid.{all-laid, all-fine, area-is, no-area, area-corners}
 
 no-values : all finite (valuesOfCorners []) ≡ true

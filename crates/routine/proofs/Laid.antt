@@ -22,7 +22,7 @@ use Rattle.walk.proofs.Beyond.{decoded}
 use Rattle.triangles.specs.Pair.{vertexSigns}
 use Rattle.triangles.specs.Positions.{positionOf, valuesOfCorners, cornerAt, sumTo, half, areaOf}
 use Rattle.routine.specs.Code.{positionAt, spotOf, spotAt, spotsTo, fineTo, sumBy, areaBy}
-use Rattle.routine.proofs.Spots.{params, spot, spotFine, stands}
+use Rattle.routine.proofs.Crossings.{params, spot, spotFine, stands}
 
 -- ---- lists
 map-take : {A B : Type 0} (f : A → B) (n : ℕ) (xs : List A) → map f (take n xs) ≡ take n (map f xs)

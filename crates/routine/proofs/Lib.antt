@@ -3,7 +3,7 @@ pub mod Decoded
 pub mod Front
 pub mod Cascade
 pub mod Edges
-pub mod Spots
+pub mod Crossings
 pub mod Laid
 pub mod Entry
 pub mod Shapes

@@ -18,7 +18,7 @@ use Rattle.floats.proofs.Lists.{all-append}
 use Rattle.lines.specs.declared.Params.{Params}
 use Rattle.walk.specs.declared.Corner.{Corner}
 use Rattle.triangles.specs.Answers.{written}
-use Rattle.routine.specs.declared.Spot.{Spot}
+use Rattle.routine.specs.declared.spots.Spot.{Spot}
 use Rattle.routine.specs.Code.{positionAt, spotAt, spotsTo, fineTo, sumBy}
 
 -- ---- every value tested

@@ -14,7 +14,7 @@ use Rattle.lines.specs.Parameters.{parameter, carried, signsOf}
 use Rattle.ring.specs.Places.{Place, vertex, corner, crossing}
 use Rattle.walk.specs.declared.Corner.{Corner}
 use Rattle.walk.specs.Code.{coded, placeOf, beyondALine}
-use Rattle.routine.specs.declared.Spot.{Spot}
+use Rattle.routine.specs.declared.spots.Spot.{Spot}
 use Rattle.triangles.specs.Positions.{fraction, between, half}
 use Rattle.triangles.specs.Refusals.{coordinates, wayToD, dZero, wayToE, eZero, wayToParameter, firstOf}
 

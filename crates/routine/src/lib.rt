@@ -1,19 +1,27 @@
 // The routine: from twelve values and a lent room to the answer of two triangles.
+mod rows;
+mod spots;
+
 ghost use mathlib.Core.Path.{_≡_};
 ghost use mathlib.Core.Bool.{true};
 ghost use mathlib.Core.List.{[], _∷_};
-ghost use Prim.Native.Nat.{_*_, _<_, _≤_};
+ghost use Prim.Native.Nat.{_*_, _≤_};
 ghost use lib.ListN.{length, take};
 ghost use Rattle.floats.specs.Lists.{all};
 ghost use Rattle.floats.specs.Finite.{finite};
-ghost use Rattle.walk.specs.Code.{placeOf, befores};
+ghost use Rattle.walk.specs.Code.{befores};
 ghost use Rattle.triangles.specs.Pair.{dOfV, eOfU, paramsOf, vertexSigns, edgeOrders};
 ghost use Rattle.triangles.specs.Refusals.{wayToPairTest, wayOf};
 ghost use Rattle.triangles.specs.Answers.{refusal, written};
 ghost use Rattle.triangles.specs.Promise.{Promise};
-ghost use Rattle.triangles.specs.Decision.{decided, decisionOf, Decided};
-ghost use Rattle.routine.specs.Code.{positionAt, frontOf, clearBy, beyondBy, spotOn, crossSpot, spotOf, spotsTo, fineTo, areaBy};
+ghost use Rattle.triangles.specs.Decision.{decided, Decided};
+ghost use Rattle.routine.specs.Code.{frontOf};
 ghost use Rattle.routine.specs.Shapes.{shapeOf, Made, twelve};
+use rows::beyond;
+use rows::number_of;
+use spots::area_of;
+use spots::corners_of;
+use spots::position_at;
 
 // A triangle made ready for every pair that it stands in: its vertices, the sides a and b from the first vertex to the second and the third, and their cross.
 pub struct Shape {
@@ -30,19 +38,6 @@ pub struct Shape {
     pub cross: f64,
 }
 
-// The position of a corner of the ring; and whether the denominator of its t, if it has one, is finite.
-struct Spot {
-    x: f64,
-    y: f64,
-    fine: bool,
-}
-
-// The positions of a ring's corners, and whether all of them are fine.
-struct Corners {
-    xy: [f64; 12],
-    fine: bool,
-}
-
 // A number, and zeros: a refusal, or with 0 the answer of a pair of which nothing meets.
 fn refused(k: u32) -> triangles::Answer
     ensures { λ r. ⌜ r ≡ refusal k ⌝ }
@@ -55,204 +50,6 @@ fn refused(k: u32) -> triangles::Answer
         v_in_u: [false; 3],
         neighbour: [false; 3],
     }
-}
-
-// Position k of U0, U1, U2, V0, V1, V2.
-fn position_at(values: &[f64], k: usize) -> floats::Position
-    requires { ⌜ (length (now values) ≡ 12) × (k < 6) ⌝ }
-    ensures { λ r. ⌜ r ≡ positionAt (now (values .entry)) k ⌝ }
-{
-    floats::Position {
-        x: values[2 * k],
-        y: values[2 * k + 1],
-    }
-}
-
-// Whether no value is NaN or an infinity.
-fn all_finite(values: &[f64]) -> bool
-    ensures { λ r. ⌜ r ≡ all finite (now (values .entry)) ⌝ }
-{
-    let mut so_far = true;
-    let mut i = 0;
-    while i < values.len() {
-        let next = floats::is_finite(values[i]);
-        so_far = so_far & next;
-        i += 1;
-    }
-    so_far
-}
-
-// The rows of the refusals from the coordinates to the parameters, in their order. Of d, e and the parameters the last values tell of all on their way,
-// and w of x and y.
-fn number_by_rows(
-    values: &[f64],
-    d: f64,
-    e: f64,
-    p: lines::Params,
-    q: lines::Params,
-    r: lines::Params,
-) -> u32
-    requires { ⌜ (d ≡ dOfV (now values) .value) × (e ≡ eOfU (now values) .value) × (p ≡ paramsOf (now values) 0) × (q ≡ paramsOf (now values) 1) × (r ≡ paramsOf (now values) 2) ⌝ }
-    ensures { λ k. ⌜ k ≡ frontOf (now (values .entry)) ⌝ }
-{
-    if !all_finite(values) {
-        return 2;
-    }
-    if !floats::is_finite(d) {
-        return 4;
-    }
-    if d == 0.0 {
-        return 3;
-    }
-    if !floats::is_finite(e) {
-        return 4;
-    }
-    if e == 0.0 {
-        return 5;
-    }
-    if floats::is_finite(p.w) & (floats::is_finite(q.w) & floats::is_finite(r.w)) {
-        return 0;
-    }
-    4
-}
-
-// Whether one sum tells that none of these rows holds. A sum that is finite has finite terms: where that of e and the three w is, no coordinate
-// and nothing on the way to them is not.
-fn clear(d: f64, e: f64, p: lines::Params, q: lines::Params, r: lines::Params) -> bool
-    ensures { λ b. ⌜ b ≡ clearBy d e p q r ⌝ }
-{
-    floats::is_finite(p.w + q.w + r.w + e) & ((d != 0.0) & (e != 0.0))
-}
-
-// Whether the sum tells so and all of U lies beyond one of V's lines: then nothing is found.
-fn beyond(d: f64, e: f64, p: lines::Params, q: lines::Params, r: lines::Params) -> bool
-    ensures { λ b. ⌜ b ≡ beyondBy d e p q r ⌝ }
-{
-    if clear(d, e, p, q, r) {
-        return walk::apart([lines::signs_of(p), lines::signs_of(q), lines::signs_of(r)]);
-    }
-    false
-}
-
-// The number of these rows, which are asked one by one only where the sum does not tell.
-fn number_of(
-    values: &[f64],
-    d: f64,
-    e: f64,
-    p: lines::Params,
-    q: lines::Params,
-    r: lines::Params,
-) -> u32
-    requires { ⌜ length (now values) ≡ 12 ⌝ }
-    requires { ⌜ (d ≡ dOfV (now values) .value) × (e ≡ eOfU (now values) .value) × (p ≡ paramsOf (now values) 0) × (q ≡ paramsOf (now values) 1) × (r ≡ paramsOf (now values) 2) ⌝ }
-    ensures { λ k. ⌜ k ≡ frontOf (now (values .entry)) ⌝ }
-{
-    if clear(d, e, p, q, r) {
-        return 0;
-    }
-    number_by_rows(values, d, e, p, q, r)
-}
-
-// The crossing between a, which is plus on its line, and b, p and q being the line's parameters at them.
-fn between(a: floats::Position, b: floats::Position, p: f64, q: f64) -> Spot
-    ensures { λ r. ⌜ r ≡ spotOn p q a b ⌝ }
-{
-    let m = p - q;
-    let t = p / m;
-    let x = a.x + t * (b.x - a.x);
-    let y = a.y + t * (b.y - a.y);
-    Spot {
-        x,
-        y,
-        fine: floats::is_finite(m),
-    }
-}
-
-// The crossing of line a between vertex i, which is plus on it, and vertex j.
-fn cross_spot(values: &[f64], params: [lines::Params; 3], a: usize, i: usize, j: usize) -> Spot
-    requires { ⌜ (length (now values) ≡ 12) × (i < 3) × (j < 3) ⌝ }
-    ensures { λ r. ⌜ r ≡ crossSpot (now (values .entry)) params a i j ⌝ }
-{
-    let p = params[i];
-    let q = params[j];
-    between(
-        position_at(values, i),
-        position_at(values, j),
-        lines::param_of(p, a),
-        lines::param_of(q, a),
-    )
-}
-
-// The position of a place of the ring, which is decoded here.
-fn spot_of(
-    values: &[f64],
-    params: [lines::Params; 3],
-    signs: &[[bool; 3]; 3],
-    place: walk::Corner,
-) -> Spot
-    requires { ⌜ length (now values) ≡ 12 ⌝ }
-    ensures { λ r. ⌜ r ≡ spotOf (now (values .entry)) params (now (signs .entry)) (placeOf (place .code)) ⌝ }
-{
-    let code = place.code as usize;
-    if code < 6 {
-        let p = position_at(values, code);
-        return Spot {
-            x: p.x,
-            y: p.y,
-            fine: true,
-        };
-    }
-    let e = (code - 6) / 3;
-    let a = (code - 6) % 3;
-    let i = lines::end_of(e, 0);
-    let j = lines::end_of(e, 1);
-    if signs[i][a] {
-        return cross_spot(values, params, a, i, j);
-    }
-    cross_spot(values, params, a, j, i)
-}
-
-// The positions of the ring's first n places.
-fn corners_of(
-    values: &[f64],
-    params: [lines::Params; 3],
-    signs: [[bool; 3]; 3],
-    places: [walk::Corner; 6],
-    n: usize,
-) -> Corners
-    requires { ⌜ (length (now values) ≡ 12) × (n ≤ 6) ⌝ }
-    ensures { λ r. ⌜ (take (2 * n) (r .xy) ≡ spotsTo (now (values .entry)) params signs places n) × (r .fine ≡ fineTo (now (values .entry)) params signs places n) ⌝ }
-{
-    let mut xy = [0.0; 12];
-    let mut fine = true;
-    let mut i = 0;
-    while i < n {
-        let spot = spot_of(values, params, &signs, places[i]);
-        xy[2 * i] = spot.x;
-        xy[2 * i + 1] = spot.y;
-        fine = fine & spot.fine;
-        i += 1;
-    }
-    Corners { xy, fine }
-}
-
-// The area of n corners.
-fn area_of(xy: [f64; 12], n: usize) -> f64
-    requires { ⌜ n ≤ 6 ⌝ }
-    ensures { λ r. ⌜ r ≡ areaBy xy n ⌝ }
-{
-    let mut sum = 0.0;
-    let mut k = 0;
-    while k + 2 < n {
-        let next = floats::cross_from(
-            position_at(&xy, 0),
-            position_at(&xy, k + 1),
-            position_at(&xy, k + 2),
-        );
-        sum = sum + next;
-        k += 1;
-    }
-    0.5 * floats::turned_if(sum < 0.0, sum)
 }
 
 // The values of n corners, to the front of the room.
@@ -426,7 +223,7 @@ pub fn shape_of(x0: f64, y0: f64, x1: f64, y1: f64, x2: f64, y2: f64) -> Shape
 // Two triangles, each made ready by `shape_of`: what is decided of them.
 pub fn decision_of(u: Shape, v: Shape) -> triangles::Decision
     requires { ⌜ Made u × Made v ⌝ }
-    ensures { λ r. ⌜ r ≡ decisionOf (twelve u v) ⌝ }
+    ensures { λ r. ⌜ Decided (twelve u v) r ⌝ }
 {
     let d = v.cross;
     let e = u.cross;

@@ -1,7 +1,6 @@
 -- The answer in a room of its own, as a decision.
 use denote.Ref.{now}
 use lib.Ieee.{ofBits}
-use Rattle.triangles.proofs.Decided.{keeps}
 use Rattle.routine.proofs.Decisions.{decision-is}
 use borrow.Author.Needs.{needs}
 use Rattle.routine.proofs.decision.Statement.{statement}
@@ -24,8 +23,7 @@ returns c =
     let b3 = b2 .before in
     let b4 = b3 .before in
     let b5 = b4 .before in
-    let l = now (b5 .args .values) in
-    keeps l (decision-is l (b2 .intersect .ensures) (c .decision-from .ensures))
+    decision-is (now (b5 .args .values)) (b2 .intersect .ensures) (c .decision-from .ensures)
 
 pub decision-spec : {M : Type 1} → statement M
 decision-spec =

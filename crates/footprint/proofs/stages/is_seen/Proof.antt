@@ -1,0 +1,67 @@
+-- The ids before entry i are looked at from the last to the first; those that are left decide the rest.
+use native.Mathlib.Omega.{arith}
+use Prim.Native.Nat.{_≤_}
+use mathlib.Core.Path.{_≡_, sym, ap, _∙_}
+use denote.Ref.{now}
+use borrow.Author.Needs.{needs}
+use Rattle.layout.specs.Bytes.{u32At}
+use Rattle.layout.specs.Rules.{isSeen}
+use Rattle.layout.specs.Verdict.{idsBefore}
+use Rattle.footprint.proofs.Table.{seen-here, seen-before, seen-none}
+use Rattle.footprint.proofs.stages.is_seen.Statement.{statement}
+use Rattle.footprint.proofs.stages.is_seen.Tie as tie
+
+abbrev Inv-loop : tie.InvT-loop
+Inv-loop file table i id j₀ j = (j ≤ i) × (isSeen id (idsBefore file i) ≡ isSeen id (idsBefore file j))
+
+abbrev μ-loop : tie.MeasureT-loop
+μ-loop file table i id j₀ j = j
+
+loop-holds : tie.Need-loop-holds Inv-loop μ-loop
+loop-holds c = search needs
+
+sub-j : tie.Need-sub-j Inv-loop μ-loop
+sub-j c = search needs
+
+entry-place-requires : tie.Need-entry-place-requires Inv-loop μ-loop
+entry-place-requires c κs = search needs
+
+u32-in-requires : tie.Need-u32-in-requires Inv-loop μ-loop
+u32-in-requires c κs = search needs
+
+returns : tie.Need-returns Inv-loop μ-loop
+returns c =
+    let p = c .before .before in
+    let l = p .before .before .loop in
+    let b = p .before .before .before .before in
+    let file = now (b .args .file) in
+    seen-here file (b .pre .1) (l .j) (b .args .id) (p .before .loop-test .taken) (c .before .u32-in .ensures ∙ ap (u32At file) (p .entry-place .ensures)) (c .if1 .taken) ∙ sym (l .inv .1)
+
+loop-less : tie.Need-loop-less Inv-loop μ-loop
+loop-less c = search needs
+
+loop-again : tie.Need-loop-again Inv-loop μ-loop
+loop-again c =
+    let p = c .before .before in
+    let l = p .before .before .loop in
+    let b = p .before .before .before .before in
+    let file = now (b .args .file) in
+    (omega arith, l .inv .1 ∙ seen-before file (b .pre .1) (l .j) (b .args .id) (p .before .loop-test .taken) (c .before .u32-in .ensures ∙ ap (u32At file) (p .entry-place .ensures)) (c .if1 .left))
+
+returns-2 : tie.Need-returns-2 Inv-loop μ-loop
+returns-2 c = let l = c .before .loop in seen-none _ (l .j) _ (c .loop-test .left) ∙ sym (l .inv .1)
+
+pub is-seen-spec : {M : Type 1} → statement M
+is-seen-spec =
+    tie.close
+    (tie.spec
+    Inv-loop
+    μ-loop
+    loop-holds
+    sub-j
+    entry-place-requires
+    u32-in-requires
+    returns
+    loop-less
+    loop-again
+    returns-2)

@@ -1,0 +1,66 @@
+-- Three stores are one more leak.
+use borrow.Author.Needs.{needs}
+use denote.Ref.{now}
+use lib.ListN.{length-set}
+use mathlib.Core.Path.{refl}
+use native.Mathlib.Omega.{arith}
+use Rattle.leaklist.proofs.Lines.{added, not-added}
+use Rattle.leaklist.proofs.found.add.Statement.{statement}
+use Rattle.leaklist.proofs.found.add.Tie as tie
+
+returns : tie.Need-returns
+returns c = let g = c .before .args in (not-added (now (g .found)) (g .k) (g .test) (g .train) (g .n) (c .if1 .taken), omega arith)
+
+mul-at : tie.Need-mul-at
+mul-at c = search needs
+
+mul-found : tie.Need-mul-found
+mul-found c = search needs
+
+slice-write-found : tie.Need-slice-write-found
+slice-write-found c = search needs
+
+add-found : tie.Need-add-found
+add-found c = search needs
+
+mul-found-2 : tie.Need-mul-found-2
+mul-found-2 c = search needs
+
+slice-write-found-2 : tie.Need-slice-write-found-2
+slice-write-found-2 c = simp length-set (omega (arith, c .before .pre .0, c .before .pre .1))
+
+add-found-2 : tie.Need-add-found-2
+add-found-2 c = search needs
+
+mul-found-3 : tie.Need-mul-found-3
+mul-found-3 c = search needs
+
+slice-write-found-3 : tie.Need-slice-write-found-3
+slice-write-found-3 c = simp length-set (omega (arith, c .before .pre .0, c .before .pre .1))
+
+add-result : tie.Need-add-result
+add-result c = search needs
+
+same-length : tie.Need-same-length
+same-length c = simp length-set refl
+
+returns-2 : tie.Need-returns-2
+returns-2 c = let g = c .before .args in (added (now (g .found)) (g .k) (g .test) (g .train) (g .n) (omega (arith, c .before .pre .0, c .before .pre .1)) (c .if1 .left), omega arith)
+
+pub add-spec : {M : Type 1} → statement M
+add-spec =
+    tie.close
+    (tie.spec
+    returns
+    mul-at
+    mul-found
+    slice-write-found
+    add-found
+    mul-found-2
+    slice-write-found-2
+    add-found-2
+    mul-found-3
+    slice-write-found-3
+    add-result
+    same-length
+    returns-2)

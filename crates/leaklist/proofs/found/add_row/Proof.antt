@@ -1,0 +1,63 @@
+-- Each turn adds the leak of one more recording, if there is one.
+use Prim.Native.Nat.{_≤_, _+_, _-_}
+use borrow.Author.Needs.{needs}
+use denote.Ref.{now}
+use lib.ListN.{length}
+use mathlib.Core.List.{_++_}
+use mathlib.Core.Path.{_≡_, sym, ap, _∙_}
+use native.Mathlib.Omega.{arith}
+use Rattle.leaklist.proofs.Gathered.{row-none, row-turn}
+use Rattle.leaklist.specs.Code.{leaksIn, rowTo}
+use Rattle.leaklist.proofs.found.add_row.Statement.{statement}
+use Rattle.leaklist.proofs.found.add_row.Tie as tie
+
+abbrev Inv-loop : tie.InvT-loop
+Inv-loop file table found₀ k i e at count to₀ j₀ found to j = (j ≤ count) × (length found ≡ 12288) × (leaksIn found to ≡ leaksIn found₀ k ++ rowTo file i j) × (to ≤ k + j)
+
+abbrev μ-loop : tie.MeasureT-loop
+μ-loop file table found₀ k i e at count to₀ j₀ found to j = count - j
+
+loop-holds : tie.Need-loop-holds Inv-loop μ-loop
+loop-holds c = let g = c .before .before .before .args in
+    (omega arith, c .before .before .before .pre .6, row-none (now (g .file)) (g .i) (leaksIn (now (g .found)) (g .k)), omega arith)
+
+add-pair-requires : tie.Need-add-pair-requires Inv-loop μ-loop
+add-pair-requires c κs = let p = c .before .before .before .before .before .before .pre in
+    let l = c .before .before .loop in
+    (p .0, p .1, p .2, p .3, omega (arith, c .before .loop-test .taken, p .4), omega (arith, c .before .loop-test .taken, l .inv .3, p .4, p .5, p .0 .good .atMost64), l .inv .1)
+
+add-j : tie.Need-add-j Inv-loop μ-loop
+add-j c = search needs
+
+loop-less : tie.Need-loop-less Inv-loop μ-loop
+loop-less c = search needs
+
+loop-again : tie.Need-loop-again Inv-loop μ-loop
+loop-again c = let g = c .before .before .before .before .before .before .before .before .before .args in
+    let l = c .before .before .before .before .before .loop in
+    let a = c .before .before .add-pair .ensures in
+    (omega (arith, c .before .before .before .before .loop-test .taken), search needs, row-turn (now (g .file)) (g .i) (l .j) (leaksIn (now (g .found)) (g .k)) (l .inv .2) (a .0), omega (arith, a .1, l .inv .3))
+
+same-length : tie.Need-same-length Inv-loop μ-loop
+same-length c = let l = c .before .loop in l .inv .1 ∙ sym (c .before .before .before .before .before .pre .6)
+
+returns : tie.Need-returns Inv-loop μ-loop
+returns c = let g = c .before .before .before .before .before .args in
+    let p = c .before .before .before .before .before .pre in
+    let l = c .before .loop in
+    let e : l .j ≡ g .count = omega (arith, l .inv .0, c .loop-test .left) in
+    (l .inv .2 ∙ ap (λ n. leaksIn (now (g .found)) (g .k) ++ rowTo (now (g .file)) (g .i) n) (e ∙ p .4), omega (arith, l .inv .3, e, p .4, p .0 .good .atMost64))
+
+pub add-row-spec : {M : Type 1} → statement M
+add-row-spec =
+    tie.close
+    (tie.spec
+    Inv-loop
+    μ-loop
+    loop-holds
+    add-pair-requires
+    add-j
+    loop-less
+    loop-again
+    same-length
+    returns)

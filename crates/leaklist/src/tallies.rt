@@ -1,0 +1,67 @@
+// Decisions of prepared triangles, counted.
+ghost use mathlib.Core.Path.{_≡_};
+ghost use Prim.Native.Nat.{_+_, _≤_, _<_};
+ghost use lib.ListN.{length};
+ghost use Rattle.floats.specs.Lists.{once};
+ghost use Rattle.triangles.specs.Decision.{meets as meetsBy};
+ghost use Rattle.routine.specs.Shapes.{Made};
+ghost use Rattle.listing.specs.Turns.{folded};
+ghost use Rattle.listing.specs.Pairs.{tallied as talliedBy};
+ghost use Rattle.leaklist.specs.Code.{shapeIn, MadeFrom, rowIn, tallyIn};
+use crate::shapes::shape_in;
+
+fn one_if(test: bool) -> u32
+    ensures { λ r. ⌜ (r ≡ once test) × (r ≤ 1) ⌝ }
+{
+    if test { 1 } else { 0 }
+}
+
+fn meets(d: triangles::Decision) -> bool
+    ensures { λ r. ⌜ r ≡ meetsBy d ⌝ }
+{
+    match d {
+        triangles::Decision::Refused(_) => true,
+        triangles::Decision::Ring(_) => true,
+        triangles::Decision::Apart => false,
+    }
+}
+
+// One more decision counted.
+fn tallied(t: listing::Tally, d: triangles::Decision) -> listing::Tally
+    requires { ⌜ t .meeting < 4294967295 ⌝ }
+    ensures { λ r. ⌜ (r ≡ talliedBy t d) × (r .meeting ≤ t .meeting + 1) ⌝ }
+{
+    let more = one_if(meets(d));
+    let meeting = t.meeting + more;
+    listing::Tally { meeting }
+}
+
+// Triangle i with n triangles from j on, counted to t.
+fn row(table: &[f64], t: listing::Tally, i: usize, j: usize, n: usize) -> listing::Tally
+    requires { ⌜ Made (shapeIn (now table) i) × MadeFrom (now table) j n × (i < 2730) × (j + n ≤ 2730) × (length (now table) ≡ 30030) × (t .meeting + n ≤ 4294967295) ⌝ }
+    ensures { λ r. ⌜ (r ≡ folded talliedBy t (rowIn (now (table .entry)) i j n)) × (r .meeting ≤ t .meeting + n) ⌝ }
+{
+    let u = shape_in(table, i);
+    let mut sum = t;
+    let mut b: usize = 0;
+    while b < n {
+        let v = shape_in(table, j + b);
+        sum = tallied(sum, routine::decision_of(u, v));
+        b = b + 1;
+    }
+    sum
+}
+
+// m triangles from i on, each with n triangles from j on, in this order.
+pub(crate) fn tally(table: &[f64], i: usize, m: usize, j: usize, n: usize) -> listing::Tally
+    requires { ⌜ MadeFrom (now table) i m × MadeFrom (now table) j n × (i + m ≤ 2730) × (j + n ≤ 2730) × (length (now table) ≡ 30030) ⌝ }
+    ensures { λ r. ⌜ r ≡ tallyIn (now (table .entry)) i m j n ⌝ }
+{
+    let mut sum = listing::Tally { meeting: 0 };
+    let mut a: usize = 0;
+    while a < m {
+        sum = row(table, sum, i + a, j, n);
+        a = a + 1;
+    }
+    sum
+}

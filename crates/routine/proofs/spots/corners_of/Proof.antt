@@ -1,0 +1,94 @@
+-- Each turn lays one more position.
+use mathlib.Core.Path.{_≡_, refl, sym, ap, _∙_}
+use Prim.Native.Nat.{_*_, _-_, _≤_}
+use native.Mathlib.Nat.{le-antisymm}
+use native.Mathlib.Omega.{arith}
+use lib.ListN.{length, take}
+use Rattle.routine.specs.Code.{spotsTo, fineTo}
+use Rattle.routine.proofs.Turns.{one-laid, one-fine}
+use borrow.Author.Needs.{needs}
+use Rattle.routine.proofs.spots.corners_of.Statement.{statement}
+use Rattle.routine.proofs.spots.corners_of.Tie as tie
+
+abbrev Inv-loop : tie.InvT-loop
+Inv-loop values params n signs places xy₀ fine₀ i₀ xy fine i = (i ≤ n) × (length xy ≡ 12) × (take (2 * i) xy ≡ spotsTo values params signs places i) × (fine ≡ fineTo values params signs places i)
+
+abbrev μ-loop : tie.MeasureT-loop
+μ-loop values params n signs places xy₀ fine₀ i₀ xy fine i = n - i
+
+loop-holds : tie.Need-loop-holds Inv-loop μ-loop
+unfolding spotsTo fineTo
+loop-holds c = (search needs, search needs, refl, refl)
+
+array-copy-out-spot-of : tie.Need-array-copy-out-spot-of Inv-loop μ-loop
+array-copy-out-spot-of c = search needs
+
+spot-of-requires : tie.Need-spot-of-requires Inv-loop μ-loop
+spot-of-requires c κs = search needs
+
+mul-xy : tie.Need-mul-xy Inv-loop μ-loop
+mul-xy c = search needs
+
+mul-xy-2 : tie.Need-mul-xy-2 Inv-loop μ-loop
+mul-xy-2 c = search needs
+
+array-write-xy : tie.Need-array-write-xy Inv-loop μ-loop
+array-write-xy c = search needs
+
+mul-xy-3 : tie.Need-mul-xy-3 Inv-loop μ-loop
+mul-xy-3 c = search needs
+
+add-xy : tie.Need-add-xy Inv-loop μ-loop
+add-xy c = search needs
+
+mul-xy-4 : tie.Need-mul-xy-4 Inv-loop μ-loop
+mul-xy-4 c = search needs
+
+array-write-xy-2 : tie.Need-array-write-xy-2 Inv-loop μ-loop
+array-write-xy-2 c = search needs
+
+add-i : tie.Need-add-i Inv-loop μ-loop
+add-i c = search needs
+
+loop-less : tie.Need-loop-less Inv-loop μ-loop
+loop-less c = search needs
+
+loop-again : tie.Need-loop-again Inv-loop μ-loop
+loop-again c =
+    let b1 = c .before in
+    let b2 = b1 .before in
+    let b3 = b2 .before in
+    let b4 = b3 .before in
+    let b5 = b4 .before in
+    let g = b5 .before .before .args in
+    let inv = b5 .loop .inv in
+    let h = b4 .loop-test .taken in
+    (search needs, search needs, one-laid _ (g .params) (g .t3) (g .t4) _ _ (b1 .spot-of .ensures) _ (omega (arith, h, inv .1, b5 .before .before .pre .1)) (inv .2), one-fine _ (g .params) (g .t3) (g .t4) _ _ (b1 .spot-of .ensures) (inv .3))
+
+returns : tie.Need-returns Inv-loop μ-loop
+returns c =
+    let inv = c .before .loop .inv in
+    let n = le-antisymm (inv .0) (c .loop-test .left) in
+    let g = c .before .before .before .args in
+    (ap (λ k. take (2 * k) (c .before .loop .xy)) (sym n) ∙ (inv .2 ∙ ap (spotsTo _ (g .params) (g .t3) (g .t4)) n), inv .3 ∙ ap (fineTo _ (g .params) (g .t3) (g .t4)) n)
+
+pub corners-of-spec : {M : Type 1} → statement M
+corners-of-spec =
+    tie.close
+    (tie.spec
+    Inv-loop
+    μ-loop
+    loop-holds
+    array-copy-out-spot-of
+    spot-of-requires
+    mul-xy
+    mul-xy-2
+    array-write-xy
+    mul-xy-3
+    add-xy
+    mul-xy-4
+    array-write-xy-2
+    add-i
+    loop-less
+    loop-again
+    returns)

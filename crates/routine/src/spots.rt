@@ -1,0 +1,132 @@
+// The positions of a ring's corners, and their area.
+ghost use mathlib.Core.Path.{_≡_};
+ghost use Prim.Native.Nat.{_*_, _<_, _≤_};
+ghost use lib.ListN.{length, take};
+ghost use Rattle.walk.specs.Code.{placeOf};
+ghost use Rattle.routine.specs.Code.{positionAt, spotOn, crossSpot, spotOf, spotsTo, fineTo, areaBy};
+
+// The position of a corner of the ring; and whether the denominator of its t, if it has one, is finite.
+pub(crate) struct Spot {
+    x: f64,
+    y: f64,
+    fine: bool,
+}
+
+// The positions of a ring's corners, and whether all of them are fine.
+pub(crate) struct Corners {
+    pub(crate) xy: [f64; 12],
+    pub(crate) fine: bool,
+}
+
+// Position k of U0, U1, U2, V0, V1, V2.
+pub(crate) fn position_at(values: &[f64], k: usize) -> floats::Position
+    requires { ⌜ (length (now values) ≡ 12) × (k < 6) ⌝ }
+    ensures { λ r. ⌜ r ≡ positionAt (now (values .entry)) k ⌝ }
+{
+    floats::Position {
+        x: values[2 * k],
+        y: values[2 * k + 1],
+    }
+}
+
+// The crossing between a, which is plus on its line, and b, p and q being the line's parameters at them.
+fn between(a: floats::Position, b: floats::Position, p: f64, q: f64) -> Spot
+    ensures { λ r. ⌜ r ≡ spotOn p q a b ⌝ }
+{
+    let m = p - q;
+    let t = p / m;
+    let x = a.x + t * (b.x - a.x);
+    let y = a.y + t * (b.y - a.y);
+    Spot {
+        x,
+        y,
+        fine: floats::is_finite(m),
+    }
+}
+
+// The crossing of line a between vertex i, which is plus on it, and vertex j.
+fn cross_spot(values: &[f64], params: [lines::Params; 3], a: usize, i: usize, j: usize) -> Spot
+    requires { ⌜ (length (now values) ≡ 12) × (i < 3) × (j < 3) ⌝ }
+    ensures { λ r. ⌜ r ≡ crossSpot (now (values .entry)) params a i j ⌝ }
+{
+    let p = params[i];
+    let q = params[j];
+    between(
+        position_at(values, i),
+        position_at(values, j),
+        lines::param_of(p, a),
+        lines::param_of(q, a),
+    )
+}
+
+// The position of a place of the ring, which is decoded here.
+fn spot_of(
+    values: &[f64],
+    params: [lines::Params; 3],
+    signs: &[[bool; 3]; 3],
+    place: walk::Corner,
+) -> Spot
+    requires { ⌜ length (now values) ≡ 12 ⌝ }
+    ensures { λ r. ⌜ r ≡ spotOf (now (values .entry)) params (now (signs .entry)) (placeOf (place .code)) ⌝ }
+{
+    let code = place.code as usize;
+    if code < 6 {
+        let p = position_at(values, code);
+        return Spot {
+            x: p.x,
+            y: p.y,
+            fine: true,
+        };
+    }
+    let e = (code - 6) / 3;
+    let a = (code - 6) % 3;
+    let i = lines::end_of(e, 0);
+    let j = lines::end_of(e, 1);
+    if signs[i][a] {
+        return cross_spot(values, params, a, i, j);
+    }
+    cross_spot(values, params, a, j, i)
+}
+
+// The positions of the ring's first n places.
+pub(crate) fn corners_of(
+    values: &[f64],
+    params: [lines::Params; 3],
+    signs: [[bool; 3]; 3],
+    places: [walk::Corner; 6],
+    n: usize,
+) -> Corners
+    requires { ⌜ (length (now values) ≡ 12) × (n ≤ 6) ⌝ }
+    ensures { λ r. ⌜ (take (2 * n) (r .xy) ≡ spotsTo (now (values .entry)) params signs places n) × (r .fine ≡ fineTo (now (values .entry)) params signs places n) ⌝ }
+{
+    let mut xy = [0.0; 12];
+    let mut fine = true;
+    let mut i = 0;
+    while i < n {
+        let spot = spot_of(values, params, &signs, places[i]);
+        xy[2 * i] = spot.x;
+        xy[2 * i + 1] = spot.y;
+        fine = fine & spot.fine;
+        i += 1;
+    }
+    Corners { xy, fine }
+}
+
+// The area of n corners.
+pub(crate) fn area_of(xy: [f64; 12], n: usize) -> f64
+    requires { ⌜ n ≤ 6 ⌝ }
+    ensures { λ r. ⌜ r ≡ areaBy xy n ⌝ }
+{
+    let mut sum = 0.0;
+    let mut k = 0;
+    while k + 2 < n {
+        let next = floats::cross_from(
+            position_at(&xy, 0),
+            position_at(&xy, k + 1),
+            position_at(&xy, k + 2),
+        );
+        sum = sum + next;
+        k += 1;
+    }
+    0.5 * floats::turned_if(sum < 0.0, sum)
+}
