@@ -15,7 +15,7 @@ pub struct Order {
 }
 
 // What a pair test says: the lower of its lines is met first; and its D is finite.
-struct Test {
+pub struct Test {
     first: bool,
     fine: bool,
 }

@@ -13,9 +13,9 @@ use Rattle.order.specs.PairTest.{signsOfU, outcomeOn, outcomesOn}
 use Rattle.order.specs.Order.{Decided, orderAlong, decidedOn, ordersOf}
 use Rattle.edges.specs.Code.{tested, orderBy, beforeIn, decidedFrom, testFine, orderOf}
 use Rattle.order.proofs.Every.{seven, eight, in-seven, in-eight}
-use Rattle.edges.proofs.Coded.{is-order, back-order, back-tests}
+use Rattle.coded.proofs.Orders.{is-order, back-order, back-tests}
 use Rattle.walk.specs.Code.{befores, ringOf as codeRing, beyondALine}
-use Rattle.walk.proofs.Coded.{IsRing, is-ring}
+use Rattle.coded.proofs.Rings.{IsRing, is-ring}
 use Rattle.walk.proofs.Beyond.{Nothing, apart-nothing, apart-untested}
 use Rattle.triangles.specs.Pair.{paramsOf, vertexSigns, outcomesOf, edgeOrders, testsOn, testsOf, pairDOf}
 use Rattle.triangles.specs.Refusals.{wayToPairTest, testsWay, wayOf}

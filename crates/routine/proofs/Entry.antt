@@ -20,7 +20,7 @@ use Rattle.ring.specs.Places.{Place, fifteen}
 use Rattle.ring.specs.Demand.{NoneOrThreeToSix}
 use Rattle.walk.specs.declared.Ring.{Ring}
 use Rattle.walk.specs.Code.{codeOf, befores, beyondALine, ringOf as codeRing}
-use Rattle.walk.proofs.Coded.{IsRing}
+use Rattle.coded.proofs.Rings.{IsRing}
 use Rattle.triangles.specs.declared.Answer.{Answer}
 use Rattle.triangles.specs.Pair.{dOfV, eOfU, parametersOf, paramsOf, vertexSigns, edgeOrders, ringOf}
 use Rattle.triangles.specs.Positions.{positionOf, ringPositions, valuesOfCorners, areaOf}
