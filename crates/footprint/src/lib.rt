@@ -145,7 +145,7 @@ pub fn entry_at(bytes: &[u8], at: usize) -> layout::Entry
 pub fn i32_at(bytes: &[u8], at: usize) -> i32
     ensures { λ r. ⌜ r ≡ i32At (now (bytes .entry)) at ⌝ }
 {
-    layout::signed(u32_at(bytes, at))
+    judge::signed(u32_at(bytes, at))
 }
 
 // The same as f64, unchanged.

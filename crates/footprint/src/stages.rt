@@ -119,7 +119,7 @@ pub(crate) fn entries(file: &[u8], table: usize, count: usize) -> layout::Verdic
         let at = entry_place(table, i);
         let e = entry_in(file, at);
         let seen = is_seen(file, table, i, e.id);
-        let number = layout::entry_rule(e, end, seen);
+        let number = judge::entry_rule(e, end, seen);
         if number != 0 {
             return refusal(number, at);
         }
@@ -143,7 +143,7 @@ fn triangle_in(file: &[u8], at: usize) -> u32
     let y1 = u32_in(file, at + 12);
     let x2 = u32_in(file, at + 16);
     let y2 = u32_in(file, at + 20);
-    layout::triangle_rule(x0, y0, x1, y1, x2, y2)
+    judge::triangle_rule(x0, y0, x1, y1, x2, y2)
 }
 
 // Refusals 17 and 18 of each triangle in turn.

@@ -1,8 +1,8 @@
 -- Every difference and product fits in 64 bits, so the cross is exact.
 use Rattle.layout.proofs.Cross.{apart-fits, product-fits, cross-fits, cross-nought}
 use borrow.Author.Needs.{needs}
-use Rattle.layout.proofs.is_flat.Statement.{statement}
-use Rattle.layout.proofs.is_flat.Tie as tie
+use Rattle.judge.proofs.is_flat.Statement.{statement}
+use Rattle.judge.proofs.is_flat.Tie as tie
 
 cast-a : tie.Need-cast-a
 cast-a c = search needs

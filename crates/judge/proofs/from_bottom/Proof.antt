@@ -1,9 +1,9 @@
 -- Adding 1,000,000 modulo 2^32, with a test in the place of the modulus.
 use borrow.Author.Tests.{lt-ltb, le-ltb}
 use Rattle.layout.specs.Code.{fromBottom}
 use borrow.Author.Needs.{needs}
-use Rattle.layout.proofs.from_bottom.Statement.{statement}
-use Rattle.layout.proofs.from_bottom.Tie as tie
+use Rattle.judge.proofs.from_bottom.Statement.{statement}
+use Rattle.judge.proofs.from_bottom.Tie as tie
 
 add-result : tie.Need-add-result
 add-result c = search needs

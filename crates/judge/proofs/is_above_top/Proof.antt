@@ -2,9 +2,9 @@
 use mathlib.Core.Bool.{or-false}
 use borrow.Author.Tests.{lt-ltb, le-ltb}
 use Rattle.floats.specs.Lists.{any}
 use Rattle.layout.specs.Code.{isAboveTop}
-use Rattle.layout.proofs.is_above_top.Statement.{statement}
-use Rattle.layout.proofs.is_above_top.Tie as tie
+use Rattle.judge.proofs.is_above_top.Statement.{statement}
+use Rattle.judge.proofs.is_above_top.Tie as tie
 
 returns : tie.Need-returns
 unfolding isAboveTop any

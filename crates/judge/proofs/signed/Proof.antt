@@ -6,11 +6,11 @@ use borrow.Author.Tests.{lt-ltb, le-ltb}
 use mir.ValLaws.{toZ-ofZ, toZ-pos}
 use mir.Syntax.{w32, w64}
 use mir.Val.{SFits, toZ}
 use Rattle.layout.specs.Bytes.{signed}
 use Rattle.layout.proofs.Size.{wider, turned}
 use borrow.Author.Needs.{needs}
-use Rattle.layout.proofs.signed.Statement.{statement}
-use Rattle.layout.proofs.signed.Tie as tie
+use Rattle.judge.proofs.signed.Statement.{statement}
+use Rattle.judge.proofs.signed.Tie as tie
 
 wide : (c : tie.Else1) → toZ w64 (c .before .args .v) ≡ pos (c .before .args .v)
 wide c = toZ-pos w64 (c .before .args .v) (omega arith)

@@ -1,10 +1,10 @@
 -- Counted from the lower end, the numbers are out of range where they are, and have the same cross.
 use native.Mathlib.Omega.{arith}
 use mathlib.Core.Path.{sym, _∙_}
 use Rattle.layout.proofs.Cross.{all-in, says-17, says-18, says-0}
 use borrow.Author.Needs.{needs}
-use Rattle.layout.proofs.triangle_rule.Statement.{statement}
-use Rattle.layout.proofs.triangle_rule.Tie as tie
+use Rattle.judge.proofs.triangle_rule.Statement.{statement}
+use Rattle.judge.proofs.triangle_rule.Tie as tie
 
 from-bottom-requires : tie.Need-from-bottom-requires
 from-bottom-requires c κs = search needs

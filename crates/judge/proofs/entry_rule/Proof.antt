@@ -1,8 +1,8 @@
 -- The tests are the rule's, in its order.
 use borrow.Author.Tests.{eq-eqb, ne-eqb, lt-ltb, le-ltb}
 use Rattle.layout.specs.Rules.{isBadEntry, entryRule}
-use Rattle.layout.proofs.entry_rule.Statement.{statement}
-use Rattle.layout.proofs.entry_rule.Tie as tie
+use Rattle.judge.proofs.entry_rule.Statement.{statement}
+use Rattle.judge.proofs.entry_rule.Tie as tie
 
 returns : tie.Need-returns
 unfolding entryRule isBadEntry
