@@ -6,8 +6,8 @@ use native.Mathlib.Numerals.{add-one}
 use lib.Ieee.{Float}
 use Rattle.triangles.specs.declared.Decision.{Decision}
 use Rattle.triangles.specs.Decision.{decisionOf}
-use Rattle.routine.specs.declared.Shape.{Shape}
-use Rattle.routine.specs.Shapes.{twelve}
+use Rattle.shapes.specs.declared.Shape.{Shape}
+use Rattle.shapes.specs.Shapes.{twelve}
 use Rattle.listing.specs.declared.Tally.{Tally}
 use Rattle.listing.specs.Turns.{upTo, each, folded}
 use Rattle.listing.specs.Pairs.{noneYet, tallied}

@@ -11,7 +11,7 @@ use lib.Ieee.{Float}
 use Rattle.floats.specs.Lists.{filter}
 use Rattle.floats.proofs.Lists.{filter-append}
 use Rattle.triangles.specs.Decision.{decisionOf}
-use Rattle.routine.specs.Shapes.{Made, twelve}
+use Rattle.shapes.specs.Shapes.{Made, twelve}
 use Rattle.layout.specs.declared.Entry.{Entry}
 use Rattle.layout.specs.Bytes.{u32At}
 use Rattle.layout.specs.Parts.{tablePlace, countOf, entryFrom, entryPlace, entryAt, trianglesOf}

@@ -10,8 +10,8 @@ use borrow.Author.Tests.{ltb-true, ltb-false}
 use lib.ListN.{length, getD, take, drop, set, length-append, List·getD-append}
 use lib.Seq.{sets, sets-eq, length-take-le, getD-take, getD-append-add}
 use lib.Ieee.{Float, nan}
-use Rattle.routine.specs.declared.Shape.{Shape}
-use Rattle.routine.specs.Shapes.{shapeOf}
+use Rattle.shapes.specs.declared.Shape.{Shape}
+use Rattle.shapes.specs.Shapes.{shapeOf}
 use Rattle.layout.specs.Recordings.{f64At}
 use Rattle.leaklist.specs.Code.{elevenOf, shapeIn, shapeFrom, Prepared}
 

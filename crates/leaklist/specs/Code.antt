@@ -8,8 +8,8 @@ use lib.ListN.{length, getD}
 use lib.Ieee.{Float, nan}
 use Rattle.triangles.specs.declared.Decision.{Decision}
 use Rattle.triangles.specs.Decision.{decisionOf}
-use Rattle.routine.specs.declared.Shape.{Shape}
-use Rattle.routine.specs.Shapes.{shapeOf, Made, twelve}
+use Rattle.shapes.specs.declared.Shape.{Shape}
+use Rattle.shapes.specs.Shapes.{shapeOf, Made, twelve}
 use lib.Seq.{sets}
 use Rattle.layout.specs.Parts.{countOf, entryAt, trianglesOf}
 use Rattle.layout.specs.Layout.{Layout}

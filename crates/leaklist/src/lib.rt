@@ -1,6 +1,6 @@
 // The writer of the leak list. A file is judged once; each of its triangles is prepared once; each pair of recordings is counted once; and the room is written to only when the list is known to fit.
 mod found;
-mod shapes;
+mod prepared;
 mod tallies;
 mod words;
 
@@ -16,8 +16,8 @@ ghost use Rattle.listing.specs.Promise.{Promise};
 ghost use Rattle.leaklist.specs.Code.{leaksIn, WrittenAs, toldOf};
 use found::gather;
 use found::no_leaks;
-use shapes::no_shapes;
-use shapes::prepare;
+use prepared::no_shapes;
+use prepared::prepare;
 use words::lines_length;
 use words::put_first;
 use words::put_lines;

@@ -3,12 +3,11 @@ ghost use mathlib.Core.Path.{_≡_};
 ghost use Prim.Native.Nat.{_+_, _≤_, _<_};
 ghost use lib.ListN.{length};
 ghost use Rattle.floats.specs.Lists.{once};
-ghost use Rattle.triangles.specs.Decision.{meets as meetsBy};
-ghost use Rattle.routine.specs.Shapes.{Made};
+ghost use Rattle.shapes.specs.Shapes.{Made};
 ghost use Rattle.listing.specs.Turns.{folded};
 ghost use Rattle.listing.specs.Pairs.{tallied as talliedBy};
 ghost use Rattle.leaklist.specs.Code.{shapeIn, MadeFrom, rowIn, tallyIn};
-use crate::shapes::shape_in;
+use crate::prepared::shape_in;
 
 fn one_if(test: bool) -> u32
     ensures { λ r. ⌜ (r ≡ once test) × (r ≤ 1) ⌝ }
@@ -16,22 +15,12 @@ fn one_if(test: bool) -> u32
     if test { 1 } else { 0 }
 }
 
-fn meets(d: triangles::Decision) -> bool
-    ensures { λ r. ⌜ r ≡ meetsBy d ⌝ }
-{
-    match d {
-        triangles::Decision::Refused(_) => true,
-        triangles::Decision::Ring(_) => true,
-        triangles::Decision::Apart => false,
-    }
-}
-
 // One more decision counted.
 fn tallied(t: listing::Tally, d: triangles::Decision) -> listing::Tally
     requires { ⌜ t .meeting < 4294967295 ⌝ }
     ensures { λ r. ⌜ (r ≡ talliedBy t d) × (r .meeting ≤ t .meeting + 1) ⌝ }
 {
-    let more = one_if(meets(d));
+    let more = one_if(decisions::meets(d));
     let meeting = t.meeting + more;
     listing::Tally { meeting }
 }

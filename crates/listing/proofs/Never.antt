@@ -10,7 +10,6 @@ use Rattle.layout.specs.Parts.{Triangle, numbersOf, countOf, entryAt, triangleF
 use Rattle.layout.specs.Layout.{Layout}
 use Rattle.layout.specs.Recordings.{partOf, f64At}
 use Rattle.layout.proofs.Inside.{parts-inside}
-use Rattle.centimetres.specs.Centimetres.{valuesOf}
 use Rattle.centimetres.proofs.Never.{always-decided}
 use Rattle.centimetres.proofs.Passed.{in-good-files}
 use Rattle.listing.specs.Pairs.{placeIn, coordinatesAt, decisionAt}

@@ -1,21 +1,20 @@
 -- The list is read back from its text, and a refusal from its line. Assumes nothing.
 use Prim.Native.Nat.{ℕ, suc, _+_, _-_, _*_, _<_, _≤_}
-use mathlib.Core.Path.{_≡_, refl, sym, ap, ap₂, _∙_}
-use mathlib.Core.Bool.{Bool, true, false, _&&_, cond}
+use mathlib.Core.Path.{_≡_, refl, sym, ap, _∙_}
+use mathlib.Core.Bool.{true, false}
 use mathlib.Core.List.{List, [], _∷_, _++_, append-assoc, append-nil, List·Memᴰ, List·Memᴰ·head as here, List·Memᴰ·tail as there}
 use native.Mathlib.Omega.{arith}
-use lib.Dec.{eqb, leb}
+use lib.Dec.{eqb}
 use borrow.Author.Tests.{ne-eqb, le-leb}
 use lib.ListN.{length}
 use Rattle.floats.specs.Lists.{count}
 use Rattle.floats.proofs.Lists.{count-append}
-use Rattle.layout.specs.declared.Verdict.{Verdict}
 use Rattle.text.specs.Decimal.{decimal, readOn}
 use Rattle.text.proofs.Decimal.{decimals}
 use Rattle.listing.specs.Turns.{each}
 use Rattle.listing.specs.Leaks.{Leak, leaks}
 use Rattle.listing.specs.Words.{leaksWord, testWord, trainWord, pairsWord, refusedWord, atWord, feed, firstLine, leakLine, leakLines, listText, refusedLine}
-use Rattle.listing.specs.Read.{isDigit, numbersBy, numbersIn, feeds, threeOf, ReadBack, ListsReadBack, RefusalReadBack, RefusalsReadBack}
+use Rattle.listing.specs.Read.{isDigit, numbersBy, numbersIn, feeds, threeOf, ListsReadBack, RefusalsReadBack}
 
 abbrev AllDigits : List ℕ → Type 0
 AllDigits text = (b : ℕ) → List·Memᴰ b text → (48 ≤ b) × (b ≤ 57)

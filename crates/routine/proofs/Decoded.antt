@@ -12,7 +12,7 @@ use Rattle.lines.specs.Lines.{signsAt, start, finish}
 use Rattle.lines.specs.declared.Params.{Params}
 use Rattle.ring.specs.Places.{vertex, corner, crossing}
 use Rattle.walk.specs.Code.{placeOf}
-use Rattle.routine.specs.declared.spots.Spot.{Spot}
+use Rattle.crossings.specs.declared.Spot.{Spot}
 use Rattle.routine.specs.Code.{positionAt, copied, crossSpot, spotOf}
 
 module _ (l : List Float) (ps : List Params) (ss : List (List Bool)) (k : ℕ) where

@@ -27,7 +27,8 @@ use Rattle.triangles.specs.Positions.{positionOf, ringPositions, valuesOfCorner
 use Rattle.triangles.specs.Refusals.{wayToPairTest, wayToPosition, wayToArea, positionsWay, testsWay, wayOf, refusalOf}
 use Rattle.triangles.specs.Answers.{refusal, answerOf, written, answered}
 use Rattle.triangles.specs.Promise.{Promise}
-use Rattle.routine.specs.Code.{positionAt, frontOf, clearBy, beyondBy, spotsTo, fineTo, areaBy}
+use Rattle.front.specs.Front.{clearBy, beyondBy}
+use Rattle.routine.specs.Code.{positionAt, frontOf, spotsTo, fineTo, areaBy}
 use Rattle.triangles.proofs.Demand.{sound}
 use Rattle.triangles.proofs.Rest.{ring-fits}
 use Rattle.triangles.proofs.Rows.{answered-is}

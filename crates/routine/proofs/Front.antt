@@ -16,18 +16,9 @@ use Rattle.lines.proofs.Told.{w-operands}
 use Rattle.lines.specs.declared.Params.{Params}
 use Rattle.triangles.specs.Pair.{vertexOf, cornerOf, dOfV, eOfU, parametersOf, paramsOf}
 use Rattle.triangles.specs.Refusals.{wayToParameter, parametersWay, wayOf, rowTest, firstOf}
-use Rattle.routine.specs.Code.{frontOf, clearBy}
+use Rattle.front.specs.Front.{frontBy, clearBy, numberBy}
+use Rattle.routine.specs.Code.{frontOf}
 use Rattle.triangles.proofs.Told.{told-d, told-e, told-parameter}
-
--- by values: the coordinates, d, e and the parameters
-unfoldable pub frontBy : List Float → Float → Float → Params → Params → Params → ℕ
-frontBy l d e p q r =
-    cond (not (all finite l)) 2
-    (cond (not (finite d)) 4
-    (cond (eq d nought) 3
-    (cond (not (finite e)) 4
-    (cond (eq e nought) 5
-    (cond (finite (p .w) && (finite (q .w) && finite (r .w))) 0 4)))))
 
 turned-choice : {A : Type 0} (b : Bool) (x y : A) → cond (not b) x y ≡ cond b y x
 turned-choice true x y = refl
@@ -125,6 +116,11 @@ module _ (l : List Float) (d e : Float) (p q r : Params) (given : (d ≡ dOfV l 
   pub by-clear : {b : Bool} → length l ≡ 12 → b ≡ clearBy d e p q r → b ≡ true → frontOf l ≡ 0
   by-clear n s t = front-clear l n (rw (given .0, given .1, given .2, given .3, given .4) at (sym s ∙ t))
 
--- a test and its answer, turned
-pub not-of : {b c r : Bool} → b ≡ c → not b ≡ r → not c ≡ r
-not-of e h = ap not (sym e) ∙ h
+  -- the number that the code gives is that of the table
+  pub number-is : {k : ℕ} → length l ≡ 12 → k ≡ numberBy l d e p q r → k ≡ frontOf l
+  unfolding numberBy
+  number-is {k} n h = go (clearBy d e p q r) refl h
+    where
+      go : (b : Bool) → clearBy d e p q r ≡ b → k ≡ cond b 0 (frontBy l d e p q r) → k ≡ frontOf l
+      go true c e = e ∙ sym (by-clear n (sym c) refl)
+      go false c e = to-front e

@@ -6,8 +6,8 @@ use Rattle.lines.specs.declared.Params.{Params}
 use Rattle.lines.specs.Parameters.{parametersBy, valuesOf, paramsBy}
 use Rattle.lines.proofs.Sides.{by-sides}
 use Rattle.triangles.specs.Pair.{dOfV, eOfU, paramsOf}
-use Rattle.routine.specs.declared.Shape.{Shape}
-use Rattle.routine.specs.Shapes.{Made, twelve}
+use Rattle.shapes.specs.declared.Shape.{Shape}
+use Rattle.shapes.specs.Shapes.{Made, twelve}
 use Rattle.routine.proofs.Entry.{all-given}
 
 -- a shape's vertices and sides

@@ -1,35 +1,22 @@
 -- One turn of each loop, and what its last turn leaves. Assumes nothing.
-use mathlib.Core.Path.{_≡_, refl, sym, ap, ap₂, subst, _∙_}
-use mathlib.Core.Bool.{Bool, _&&_, and-true}
+use mathlib.Core.Path.{_≡_, refl, sym, ap, subst, _∙_}
+use mathlib.Core.Bool.{Bool, _&&_}
 use mathlib.Core.List.{List, [], _∷_, _++_}
 use Prim.Native.Nat.{ℕ, suc, _+_, _-_, _*_, _<_, _≤_}
 use native.Mathlib.Nat.{zero-add, le-antisymm}
 use native.Mathlib.Numerals.{add-one}
 use native.Mathlib.Omega.{arith}
 use lib.ListN.{length, getD, set, take, drop}
-use lib.Seq.{take-suc, take-all, take-suc-set, append-snoc, length-take-le, lt-length-set, paste, paste-suc}
+use lib.Seq.{take-suc-set, append-snoc, length-take-le, lt-length-set, paste, paste-suc}
 use lib.Ieee.{Float, nan, binary64, add}
-use Rattle.floats.specs.Lists.{all}
-use Rattle.floats.specs.Finite.{finite}
 use Rattle.floats.specs.Numbers.{crossFrom}
 use Rattle.floats.specs.Way.{f64, at}
 use Rattle.floats.specs.declared.Position.{Position}
-use Rattle.floats.proofs.Lists.{all-append}
 use Rattle.lines.specs.declared.Params.{Params}
 use Rattle.walk.specs.declared.Corner.{Corner}
 use Rattle.triangles.specs.Answers.{written}
-use Rattle.routine.specs.declared.spots.Spot.{Spot}
+use Rattle.crossings.specs.declared.Spot.{Spot}
 use Rattle.routine.specs.Code.{positionAt, spotAt, spotsTo, fineTo, sumBy}
-
--- ---- every value tested
-pub one-tested : (l : List Float) (i : ℕ) {so-far next : Bool} → i < length l → so-far ≡ all finite (take i l) → next ≡ finite (getD l i nan) → (so-far && next) ≡ all finite (take (i + 1) l)
-unfolding all
-one-tested l i h e k =
-    ap₂ _&&_ e (k ∙ sym (and-true (finite (getD l i nan))))
-    ∙ (sym (all-append finite (take i l) (getD l i nan ∷ [])) ∙ (ap (all finite) (sym (take-suc l i nan h)) ∙ ap (λ n. all finite (take n l)) (sym (add-one i))))
-
-pub all-tested : (l : List Float) (i : ℕ) {so-far : Bool} → length l ≤ i → so-far ≡ all finite (take i l) → so-far ≡ all finite l
-all-tested l i h e = e ∙ ap (all finite) (take-all i l h)
 
 -- ---- two values laid
 pub two-laid : (xs : List Float) (i : ℕ) (x y : Float) {vs : List Float} → 2 * i + 1 < length xs → take (2 * i) xs ≡ vs → take (2 * (i + 1)) (set (set xs (2 * i) x) (2 * i + 1) y) ≡ vs ++ (x ∷ y ∷ [])

@@ -3,19 +3,20 @@ use mathlib.Core.Bool.{Bool, true, not, _&&_, cond}
 use mathlib.Core.List.{List, [], _∷_, _++_}
 use Prim.Native.Nat.{ℕ, zero, suc, _+_, _-_, _*_}
 use lib.ListN.{getD}
-use lib.Ieee.{Float, nan, binary64, add, sub, mul, neg, lt, eq}
-use Rattle.floats.specs.Finite.{finite, nought}
+use lib.Ieee.{Float, nan, binary64, add, mul, neg, lt}
+use Rattle.floats.specs.Finite.{nought}
 use Rattle.floats.specs.Numbers.{crossFrom}
-use Rattle.floats.specs.Way.{given, f64, at}
+use Rattle.floats.specs.Way.{f64, at}
 use Rattle.floats.specs.declared.Position.{Position}
 use Rattle.lines.specs.Lines.{signsAt, start, finish}
 use Rattle.lines.specs.declared.Params.{Params}
-use Rattle.lines.specs.Parameters.{parameter, carried, signsOf}
+use Rattle.lines.specs.Parameters.{parameter, carried}
 use Rattle.ring.specs.Places.{Place, vertex, corner, crossing}
 use Rattle.walk.specs.declared.Corner.{Corner}
-use Rattle.walk.specs.Code.{coded, placeOf, beyondALine}
-use Rattle.routine.specs.declared.spots.Spot.{Spot}
-use Rattle.triangles.specs.Positions.{fraction, between, half}
+use Rattle.walk.specs.Code.{coded, placeOf}
+use Rattle.crossings.specs.declared.Spot.{Spot}
+use Rattle.crossings.specs.Crossing.{spotOn}
+use Rattle.triangles.specs.Positions.{half}
 use Rattle.triangles.specs.Refusals.{coordinates, wayToD, dZero, wayToE, eZero, wayToParameter, firstOf}
 
 -- position k of six: U0, U1, U2, V0, V1, V2
@@ -27,21 +28,9 @@ unfoldable pub frontOf : List Float → ℕ
 unfolding firstOf
 frontOf l = firstOf (coordinates ∷ wayToD ∷ dZero ∷ wayToE ∷ eZero ∷ wayToParameter ∷ []) l []
 
--- what is seen at once: the sum of e and the three w is finite, and neither d nor e is zero
-unfoldable pub clearBy : Float → Float → Params → Params → Params → Bool
-clearBy d e p q r = finite (add binary64 (add binary64 (add binary64 (p .w) (q .w)) (r .w)) e) && (not (eq d nought) && not (eq e nought))
-
--- .. and all of U lies beyond one of V's lines
-unfoldable pub beyondBy : Float → Float → Params → Params → Params → Bool
-beyondBy d e p q r = clearBy d e p q r && beyondALine (signsOf p ∷ signsOf q ∷ signsOf r ∷ [])
-
 -- ---- positions
 abbrev pub copied : Position → Spot
 copied p = record { x = p .x; y = p .y; fine = true }
-
--- between P and Q, with the line's parameter at either; fine where the denominator of t is finite
-unfoldable pub spotOn : Float → Float → Position → Position → Spot
-spotOn p q P Q = let c = between (fraction (given p) (given q)) (at P) (at Q) in record { x = c .x .value; y = c .y .value; fine = finite (sub binary64 p q) }
 
 abbrev pub paramsAt : List Params → ℕ → Params
 paramsAt ps i = getD ps i (record { x = nan; y = nan; w = nan })

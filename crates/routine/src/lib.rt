@@ -1,5 +1,4 @@
 // The routine: from twelve values and a lent room to the answer of two triangles.
-mod rows;
 mod spots;
 
 ghost use mathlib.Core.Path.{_≡_};
@@ -14,29 +13,12 @@ ghost use Rattle.triangles.specs.Pair.{dOfV, eOfU, paramsOf, vertexSigns, edgeO
 ghost use Rattle.triangles.specs.Refusals.{wayToPairTest, wayOf};
 ghost use Rattle.triangles.specs.Answers.{refusal, written};
 ghost use Rattle.triangles.specs.Promise.{Promise};
-ghost use Rattle.triangles.specs.Decision.{decided, Decided};
+ghost use Rattle.triangles.specs.Decision.{Decided};
 ghost use Rattle.routine.specs.Code.{frontOf};
-ghost use Rattle.routine.specs.Shapes.{shapeOf, Made, twelve};
-use rows::beyond;
-use rows::number_of;
+ghost use Rattle.shapes.specs.Shapes.{Made, twelve};
 use spots::area_of;
 use spots::corners_of;
 use spots::position_at;
-
-// A triangle made ready for every pair that it stands in: its vertices, the sides a and b from the first vertex to the second and the third, and their cross.
-pub struct Shape {
-    pub x0: f64,
-    pub y0: f64,
-    pub x1: f64,
-    pub y1: f64,
-    pub x2: f64,
-    pub y2: f64,
-    pub ax: f64,
-    pub ay: f64,
-    pub bx: f64,
-    pub by: f64,
-    pub cross: f64,
-}
 
 // A number, and zeros: a refusal, or with 0 the answer of a pair of which nothing meets.
 fn refused(k: u32) -> triangles::Answer
@@ -141,7 +123,7 @@ fn settled(
     requires { ⌜ (d ≡ dOfV (now values) .value) × (e ≡ eOfU (now values) .value) × (p ≡ paramsOf (now values) 0) × (q ≡ paramsOf (now values) 1) × (r ≡ paramsOf (now values) 2) ⌝ }
     ensures { λ r. ⌜ Promise (now (values .entry)) (now (room .entry)) r (now (room .exit)) ⌝ }
 {
-    let k = number_of(values, d, e, p, q, r);
+    let k = front::number_of(values, d, e, p, q, r);
     if k == 0 {
         return ordered(values, room, p, q, r);
     }
@@ -169,23 +151,10 @@ pub fn intersect(values: &[f64], room: &mut [f64]) -> triangles::Answer
     let p = lines::params_of(d, v0, v1, v2, u0);
     let q = lines::params_of(d, v0, v1, v2, u1);
     let r = lines::params_of(d, v0, v1, v2, u2);
-    if beyond(d, e, p, q, r) {
+    if front::beyond(d, e, p, q, r) {
         return refused(0);
     }
     settled(values, room, d, e, p, q, r)
-}
-
-// An answer as a decision.
-fn decision_from(a: triangles::Answer) -> triangles::Decision
-    ensures { λ r. ⌜ r ≡ decided a ⌝ }
-{
-    if a.number != 0 {
-        return triangles::Decision::Refused(a.number);
-    }
-    if a.n == 0 {
-        return triangles::Decision::Apart;
-    }
-    triangles::Decision::Ring(a.area)
 }
 
 // Two triangles, U0x, U0y, .. V2y: what is decided of them.
@@ -193,35 +162,11 @@ pub fn decision(values: &[f64]) -> triangles::Decision
     ensures { λ r. ⌜ Decided (now (values .entry)) r ⌝ }
 {
     let mut room = [0.0; 12];
-    decision_from(intersect(values, &mut room))
+    decisions::decision_from(intersect(values, &mut room))
 }
 
-// The triangle of these vertices, made ready.
-pub fn shape_of(x0: f64, y0: f64, x1: f64, y1: f64, x2: f64, y2: f64) -> Shape
-    ensures { λ r. ⌜ r ≡ shapeOf x0 y0 x1 y1 x2 y2 ⌝ }
-{
-    let ax = x1 - x0;
-    let ay = y1 - y0;
-    let bx = x2 - x0;
-    let by = y2 - y0;
-    let cross = floats::cross_of(ax, ay, bx, by);
-    Shape {
-        x0,
-        y0,
-        x1,
-        y1,
-        x2,
-        y2,
-        ax,
-        ay,
-        bx,
-        by,
-        cross,
-    }
-}
-
-// Two triangles, each made ready by `shape_of`: what is decided of them.
-pub fn decision_of(u: Shape, v: Shape) -> triangles::Decision
+// Two triangles, each made ready by `shapes::shape_of`: what is decided of them.
+pub fn decision_of(u: shapes::Shape, v: shapes::Shape) -> triangles::Decision
     requires { ⌜ Made u × Made v ⌝ }
     ensures { λ r. ⌜ Decided (twelve u v) r ⌝ }
 {
@@ -233,7 +178,7 @@ pub fn decision_of(u: Shape, v: Shape) -> triangles::Decision
     let p = lines::params_by(d, v0, a, b, floats::Position { x: u.x0, y: u.y0 });
     let q = lines::params_by(d, v0, a, b, floats::Position { x: u.x1, y: u.y1 });
     let r = lines::params_by(d, v0, a, b, floats::Position { x: u.x2, y: u.y2 });
-    if beyond(d, e, p, q, r) {
+    if front::beyond(d, e, p, q, r) {
         return triangles::Decision::Apart;
     }
     let values = [
@@ -251,5 +196,5 @@ pub fn decision_of(u: Shape, v: Shape) -> triangles::Decision
         v.y2,
     ];
     let mut room = [0.0; 12];
-    decision_from(settled(&values, &mut room, d, e, p, q, r))
+    decisions::decision_from(settled(&values, &mut room, d, e, p, q, r))
 }

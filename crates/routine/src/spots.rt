@@ -3,14 +3,7 @@ ghost use mathlib.Core.Path.{_≡_};
 ghost use Prim.Native.Nat.{_*_, _<_, _≤_};
 ghost use lib.ListN.{length, take};
 ghost use Rattle.walk.specs.Code.{placeOf};
-ghost use Rattle.routine.specs.Code.{positionAt, spotOn, crossSpot, spotOf, spotsTo, fineTo, areaBy};
-
-// The position of a corner of the ring; and whether the denominator of its t, if it has one, is finite.
-pub(crate) struct Spot {
-    x: f64,
-    y: f64,
-    fine: bool,
-}
+ghost use Rattle.routine.specs.Code.{positionAt, crossSpot, spotOf, spotsTo, fineTo, areaBy};
 
 // The positions of a ring's corners, and whether all of them are fine.
 pub(crate) struct Corners {
@@ -29,29 +22,20 @@ pub(crate) fn position_at(values: &[f64], k: usize) -> floats::Position
     }
 }
 
-// The crossing between a, which is plus on its line, and b, p and q being the line's parameters at them.
-fn between(a: floats::Position, b: floats::Position, p: f64, q: f64) -> Spot
-    ensures { λ r. ⌜ r ≡ spotOn p q a b ⌝ }
-{
-    let m = p - q;
-    let t = p / m;
-    let x = a.x + t * (b.x - a.x);
-    let y = a.y + t * (b.y - a.y);
-    Spot {
-        x,
-        y,
-        fine: floats::is_finite(m),
-    }
-}
-
 // The crossing of line a between vertex i, which is plus on it, and vertex j.
-fn cross_spot(values: &[f64], params: [lines::Params; 3], a: usize, i: usize, j: usize) -> Spot
+fn cross_spot(
+    values: &[f64],
+    params: [lines::Params; 3],
+    a: usize,
+    i: usize,
+    j: usize,
+) -> crossings::Spot
     requires { ⌜ (length (now values) ≡ 12) × (i < 3) × (j < 3) ⌝ }
     ensures { λ r. ⌜ r ≡ crossSpot (now (values .entry)) params a i j ⌝ }
 {
     let p = params[i];
     let q = params[j];
-    between(
+    crossings::between(
         position_at(values, i),
         position_at(values, j),
         lines::param_of(p, a),
@@ -65,14 +49,14 @@ fn spot_of(
     params: [lines::Params; 3],
     signs: &[[bool; 3]; 3],
     place: walk::Corner,
-) -> Spot
+) -> crossings::Spot
     requires { ⌜ length (now values) ≡ 12 ⌝ }
     ensures { λ r. ⌜ r ≡ spotOf (now (values .entry)) params (now (signs .entry)) (placeOf (place .code)) ⌝ }
 {
     let code = place.code as usize;
     if code < 6 {
         let p = position_at(values, code);
-        return Spot {
+        return crossings::Spot {
             x: p.x,
             y: p.y,
             fine: true,

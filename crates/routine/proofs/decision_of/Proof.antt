@@ -3,7 +3,7 @@ use mathlib.Core.Path.{refl}
 use native.Mathlib.Omega.{arith}
 use lib.Ieee.{ofBits}
 use Rattle.triangles.specs.Decision.{enough}
-use Rattle.routine.specs.Shapes.{twelve}
+use Rattle.shapes.specs.Shapes.{twelve}
 use Rattle.routine.proofs.Entry.{beyond-kept}
 use Rattle.routine.proofs.Shapes.{shapes-give}
 use Rattle.routine.proofs.Decisions.{decision-is, apart-is}

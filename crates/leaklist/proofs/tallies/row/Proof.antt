@@ -8,7 +8,7 @@ use Rattle.leaklist.proofs.Counted.{row-none, row-turn}
 use Rattle.leaklist.specs.Code.{rowIn}
 use Rattle.listing.specs.Pairs.{tallied}
 use Rattle.listing.specs.Turns.{folded}
-use Rattle.routine.specs.Shapes.{Made}
+use Rattle.shapes.specs.Shapes.{Made}
 use Rattle.leaklist.proofs.tallies.row.Statement.{statement}
 use Rattle.leaklist.proofs.tallies.row.Tie as tie
 

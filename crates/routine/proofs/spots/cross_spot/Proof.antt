@@ -6,8 +6,9 @@ use lib.Ieee.{Float}
 use Rattle.floats.specs.declared.Position.{Position}
 use Rattle.lines.specs.declared.Params.{Params}
 use Rattle.lines.specs.Parameters.{parameter, carried}
-use Rattle.routine.specs.declared.spots.Spot.{Spot}
-use Rattle.routine.specs.Code.{positionAt, paramsAt, spotOn, crossSpot}
+use Rattle.crossings.specs.declared.Spot.{Spot}
+use Rattle.crossings.specs.Crossing.{spotOn}
+use Rattle.routine.specs.Code.{positionAt, paramsAt, crossSpot}
 use borrow.Author.Needs.{needs}
 use Rattle.routine.proofs.spots.cross_spot.Statement.{statement}
 use Rattle.routine.proofs.spots.cross_spot.Tie as tie
