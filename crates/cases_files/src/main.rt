@@ -89,7 +89,7 @@ fn write_coordinates(part: &[u8]) {
     let mut j = 0;
     while j < part.len() / 4 {
         io::write_all(1, b" ");
-        io::print_hex(1, bits_of(footprint::f64_at(part, 4 * j)), 16);
+        io::print_hex(1, bits_of(recordings::f64_at(part, 4 * j)), 16);
         j += 1;
     }
 }
@@ -109,8 +109,8 @@ fn run(file: &[u8], k: usize) {
     let v = footprint::check(file);
     write_number(v.number);
     write_number(v.place);
-    write_recording(footprint::recording(file, k));
-    let part = footprint::part(file, k);
+    write_recording(recordings::recording(file, k));
+    let part = recordings::part(file, k);
     write_part(part);
     write_coordinates(part);
     io::write_all(1, b"\n");

@@ -5,9 +5,9 @@ use mathlib.Core.Bool.{Bool, true, false, not, cond}
 use mathlib.Core.List.{List, [], _++_, append-nil}
 use native.Mathlib.Omega.{arith}
 use lib.Dec.{ltb, eqb}
-use lib.ListN.{length, List·getD-eq-default}
+use lib.ListN.{length}
 use borrow.Author.Tests.{ltb-false, eqb-true, not-false}
-use Rattle.layout.specs.Bytes.{signed, two, four, u16At, u32At, byteAt}
+use Rattle.layout.specs.Bytes.{signed, u16At, u32At, byteAt}
 use Rattle.layout.specs.Parts.{triangleOf, tablePlace, countOf, storedLength, entryFrom, triangleFrom, triangleAt, trianglesOf}
 use Rattle.layout.specs.Verdict.{outOfRange, flat, inTurn, test, placeOf, firstOf, said, good, verdict}
 use Rattle.layout.specs.Rules.{isBadLength, isOtherLength, isBadTrailer, triangleRule}
@@ -79,25 +79,3 @@ from-start file {table} h = let q : table / 24 - 0 ≡ tablePlace file / 24 = om
 pub triangle-number : (file : List ℕ) (k : ℕ) {n : ℕ} → n ≡ triangleRule (triangleFrom file (24 * k)) → n ≡ triangleNumber file k
 unfolding triangleAt
 triangle-number file k h = h
-
--- ---- a number that the end of the bytes cuts off
-pub none-there : (bytes : List ℕ) (at : ℕ) → length bytes ≤ at → 0 ≡ u32At bytes at
-unfolding u32At
-none-there bytes at h = sym (rw (List·getD-eq-default bytes 0 {n = at} h, List·getD-eq-default bytes 0 {n = at + 1} (omega arith), List·getD-eq-default bytes 0 {n = at + 2} (omega arith), List·getD-eq-default bytes 0 {n = at + 3} (omega arith)) refl)
-
-pub two-read : {a b a' b' r : ℕ} → a ≡ a' → b ≡ b' → r ≡ two a b → r ≡ two a' b'
-two-read p q h = h ∙ rw (p, q) refl
-
--- where no byte is there, the entry is all zeros
-pub no-entry : (bytes : List ℕ) (at : ℕ) → length bytes ≤ at → _≡_ {A = Entry} (record { id = 0; first = 0; count = 0; set = 0; last = 0 }) (entryFrom bytes at)
-no-entry bytes at h =
-    entry-read bytes at (none-there bytes at h) (none-there bytes (at + 4) (omega (arith, h))) (no-two (at + 8) (omega (arith, h))) (no-byte (at + 10) (omega (arith, h))) (no-byte (at + 11) (omega (arith, h)))
-  where
-    no-byte : (k : ℕ) → length bytes ≤ k → 0 ≡ byteAt bytes k
-    no-byte k g = sym (List·getD-eq-default bytes 0 {n = k} g)
-
-    no-two : (k : ℕ) → length bytes ≤ k → 0 ≡ u16At bytes k
-    no-two k g = unfold u16At in two-read (no-byte k g) (no-byte (k + 1) (omega (arith, g))) refl
-
-pub four-read : {a b c d a' b' c' d' r : ℕ} → a ≡ a' → b ≡ b' → c ≡ c' → d ≡ d' → r ≡ four a b c d → r ≡ four a' b' c' d'
-four-read p q s t h = h ∙ rw (p, q, s, t) refl

@@ -2,23 +2,36 @@
 ghost use mathlib.Core.Path.{_≡_};
 ghost use Prim.Native.Nat.{_+_, _*_, _≤_, _<_};
 ghost use lib.ListN.{length};
+ghost use Rattle.layout.specs.Bytes.{u16At, u32At};
 ghost use Rattle.layout.specs.Parts.{entryFrom, tablePlace, countOf, triangleFrom};
 ghost use Rattle.layout.specs.Rules.{isSeen, triangleRule};
 ghost use Rattle.layout.specs.Verdict.{idsBefore, firstOf, said, good};
 ghost use Rattle.layout.specs.Stages.{trailerRows, tableRows, triangleRows};
-use crate::numbers::u16_in;
-use crate::numbers::u32_in;
-use crate::numbers::wide;
 
-pub(crate) fn entry_in(file: &[u8], at: usize) -> layout::Entry
+// The numbers at a place that is known to lie in the file.
+fn u16_in(file: &[u8], at: usize) -> u32
+    requires { ⌜ at + 2 ≤ length (now file) ⌝ }
+    ensures { λ r. ⌜ (r ≡ u16At (now (file .entry)) at) × (r < 65536) ⌝ }
+{
+    judge::two(file[at], file[at + 1])
+}
+
+pub(crate) fn u32_in(file: &[u8], at: usize) -> u32
+    requires { ⌜ at + 4 ≤ length (now file) ⌝ }
+    ensures { λ r. ⌜ r ≡ u32At (now (file .entry)) at ⌝ }
+{
+    judge::four(file[at], file[at + 1], file[at + 2], file[at + 3])
+}
+
+fn entry_in(file: &[u8], at: usize) -> layout::Entry
     requires { ⌜ at + 12 ≤ length (now file) ⌝ }
     ensures { λ r. ⌜ (r ≡ entryFrom (now (file .entry)) at) × (r .count < 65536) ⌝ }
 {
     let id = u32_in(file, at);
     let first = u32_in(file, at + 4);
     let count = u16_in(file, at + 8);
-    let set = wide(file[at + 10]);
-    let last = wide(file[at + 11]);
+    let set = judge::wide(file[at + 10]);
+    let last = judge::wide(file[at + 11]);
     layout::Entry {
         id,
         first,
@@ -29,7 +42,7 @@ pub(crate) fn entry_in(file: &[u8], at: usize) -> layout::Entry
 }
 
 // Where entry i stands.
-pub(crate) fn entry_place(table: usize, i: usize) -> usize
+fn entry_place(table: usize, i: usize) -> usize
     requires { ⌜ (table ≤ 65536) × (i ≤ 64) ⌝ }
     ensures { λ r. ⌜ r ≡ table + 12 * i ⌝ }
 {
@@ -44,7 +57,7 @@ fn trailer_end(table: u32, count: u32) -> usize
 }
 
 // Where the triangles of a recording end.
-pub(crate) fn part_end(first: u32, count: u32) -> usize
+fn part_end(first: u32, count: u32) -> usize
     ensures { λ r. ⌜ r ≡ first + 24 * count ⌝ }
 {
     first as usize + 24 * count as usize

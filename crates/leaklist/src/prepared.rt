@@ -52,12 +52,12 @@ pub(crate) fn prepare(table: &mut [f64], file: &[u8], n: usize)
     while k < n {
         let at = 24 * k;
         let s = shapes::shape_of(
-            footprint::f64_at(file, at),
-            footprint::f64_at(file, at + 4),
-            footprint::f64_at(file, at + 8),
-            footprint::f64_at(file, at + 12),
-            footprint::f64_at(file, at + 16),
-            footprint::f64_at(file, at + 20),
+            recordings::f64_at(file, at),
+            recordings::f64_at(file, at + 4),
+            recordings::f64_at(file, at + 8),
+            recordings::f64_at(file, at + 12),
+            recordings::f64_at(file, at + 16),
+            recordings::f64_at(file, at + 20),
         );
         put_shape(table, k, s);
         k = k + 1;

@@ -24,7 +24,7 @@ pub extern "C" fn meskelow_check(file: &[u8]) -> layout::Verdict
 pub extern "C" fn meskelow_recording(file: &[u8], k: usize) -> layout::Recording
     ensures { λ r. ⌜ Recorded (now (file .entry)) k r ⌝ }
 {
-    footprint::recording(file, k)
+    recordings::recording(file, k)
 }
 
 // The leak list of a file's bytes: its length and the number of its leaks, with the list at the front of the room, or a refusal's number and place with zeros, with the room as it was.

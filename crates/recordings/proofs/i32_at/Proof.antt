@@ -5,8 +5,8 @@ use borrow.Author.Needs.{sfits-of}
 use mathlib.Core.Path.{ap, _∙_}
 use Rattle.layout.specs.Bytes.{signed, i32At}
 use borrow.Author.Needs.{needs}
-use Rattle.footprint.proofs.i32_at.Statement.{statement}
-use Rattle.footprint.proofs.i32_at.Tie as tie
+use Rattle.recordings.proofs.i32_at.Statement.{statement}
+use Rattle.recordings.proofs.i32_at.Tie as tie
 
 u32-at-requires : tie.Need-u32-at-requires
 u32-at-requires c κs = search needs

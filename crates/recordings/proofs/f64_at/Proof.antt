@@ -6,8 +6,8 @@ use mathlib.Core.Path.{ap, _∙_}
 use lib.Ieee.{binary64, ofInt}
 use Rattle.layout.specs.Recordings.{f64At}
 use borrow.Author.Needs.{needs}
-use Rattle.footprint.proofs.f64_at.Statement.{statement}
-use Rattle.footprint.proofs.f64_at.Tie as tie
+use Rattle.recordings.proofs.f64_at.Statement.{statement}
+use Rattle.recordings.proofs.f64_at.Tie as tie
 
 i32-at-requires : tie.Need-i32-at-requires
 i32-at-requires c κs = search needs

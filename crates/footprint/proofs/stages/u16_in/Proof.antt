@@ -1,8 +1,8 @@
 -- Two bytes, the lowest first.
 use Rattle.layout.specs.Bytes.{u16At}
 use borrow.Author.Needs.{needs}
-use Rattle.footprint.proofs.numbers.u16_in.Statement.{statement}
-use Rattle.footprint.proofs.numbers.u16_in.Tie as tie
+use Rattle.footprint.proofs.stages.u16_in.Statement.{statement}
+use Rattle.footprint.proofs.stages.u16_in.Tie as tie
 
 shared-slice-read-two : tie.Need-shared-slice-read-two
 shared-slice-read-two c = search needs

@@ -1,15 +1,12 @@
--- All bytes are there, or some, or none.
+-- No byte is there, or some are.
 use Rattle.layout.specs.Bytes.{u32At}
-use Rattle.footprint.proofs.Judge.{none-there, four-read}
+use Rattle.recordings.proofs.Beyond.{none-there, four-read}
 use borrow.Author.Needs.{needs}
-use Rattle.footprint.proofs.u32_at.Statement.{statement}
-use Rattle.footprint.proofs.u32_at.Tie as tie
+use Rattle.recordings.proofs.u32_at.Statement.{statement}
+use Rattle.recordings.proofs.u32_at.Tie as tie
 
 returns : tie.Need-returns
 returns c = none-there _ _ (c .if1 .taken)
-
-sub-if2 : tie.Need-sub-if2
-sub-if2 c = search needs
 
 byte-at-requires : tie.Need-byte-at-requires
 byte-at-requires c κs = search needs
@@ -39,18 +36,11 @@ returns-2 : tie.Need-returns-2
 unfolding u32At
 returns-2 c = four-read (c .before .before .before .before .byte-at .ensures) (c .before .before .before .byte-at2 .ensures) (c .before .before .byte-at3 .ensures) (c .before .byte-at4 .ensures) (c .four .ensures)
 
-u32-in-requires : tie.Need-u32-in-requires
-u32-in-requires c κs = search needs
-
-returns-3 : tie.Need-returns-3
-returns-3 c = search needs
-
 pub u32-at-spec : {M : Type 1} → statement M
 u32-at-spec =
     tie.close
     (tie.spec
     returns
-    sub-if2
     byte-at-requires
     add-byte-at
     byte-at-requires-2
@@ -59,6 +49,4 @@ u32-at-spec =
     add-byte-at-3
     byte-at-requires-4
     four-requires
-    returns-2
-    u32-in-requires
-    returns-3)
+    returns-2)

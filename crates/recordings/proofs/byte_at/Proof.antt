@@ -3,8 +3,8 @@ use mathlib.Core.Path.{sym}
 use denote.Ref.{now}
 use lib.ListN.{List·getD-eq-default}
 use borrow.Author.Needs.{needs}
-use Rattle.footprint.proofs.numbers.byte_at.Statement.{statement}
-use Rattle.footprint.proofs.numbers.byte_at.Tie as tie
+use Rattle.recordings.proofs.byte_at.Statement.{statement}
+use Rattle.recordings.proofs.byte_at.Tie as tie
 
 shared-slice-read-result : tie.Need-shared-slice-read-result
 shared-slice-read-result c = search needs

@@ -1,8 +1,8 @@
 -- Four bytes, the lowest first.
 use Rattle.layout.specs.Bytes.{u32At}
 use borrow.Author.Needs.{needs}
-use Rattle.footprint.proofs.numbers.u32_in.Statement.{statement}
-use Rattle.footprint.proofs.numbers.u32_in.Tie as tie
+use Rattle.footprint.proofs.stages.u32_in.Statement.{statement}
+use Rattle.footprint.proofs.stages.u32_in.Tie as tie
 
 shared-slice-read-four : tie.Need-shared-slice-read-four
 shared-slice-read-four c = search needs
