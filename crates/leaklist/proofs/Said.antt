@@ -20,7 +20,7 @@ use Rattle.listing.proofs.Returned.{by-file, by-list, outputs}
 use Rattle.listing.proofs.Enough.{ten-digits, always-enough}
 use Rattle.leaklist.specs.Code.{toldOf}
 use Rattle.leaklist.specs.Said.{Said, SaidWhole}
-use Rattle.leaklist.proofs.Lines.{refused-length}
+use Rattle.wording.proofs.Lines.{refused-length}
 
 -- ---- the place of a refusal: in a file of at most 65,536 bytes it lies in the file, and a longer one is refused at 0
 module _ (file : List ℕ) where

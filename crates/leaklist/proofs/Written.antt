@@ -24,8 +24,9 @@ use Rattle.listing.specs.Promise.{Promise}
 use Rattle.listing.proofs.Turns.{each-append, each-one}
 use Rattle.listing.proofs.Returned.{by-file, past-file, by-list, returned-one}
 use Rattle.text.specs.Room.{laid, behind, Put}
-use Rattle.leaklist.specs.Code.{leakAt, leaksIn, linesIn, Laid, textOf, wholeOf, WrittenAs, toldOf}
-use Rattle.leaklist.proofs.Lines.{first-length, laid-two, laid-as}
+use Rattle.wording.specs.Lines.{Laid}
+use Rattle.leaklist.specs.Code.{leakAt, leaksIn, linesIn, textOf, wholeOf, WrittenAs, toldOf}
+use Rattle.wording.proofs.Lines.{first-length, laid-two, laid-as}
 
 -- ---- the lines of triples are the lines of leaks
 pub how-many : (found : List ℕ) (k : ℕ) → length (leaksIn found k) ≡ k

@@ -10,7 +10,6 @@ use Rattle.triangles.specs.declared.Decision.{Decision}
 use Rattle.triangles.specs.Decision.{decisionOf}
 use Rattle.shapes.specs.declared.Shape.{Shape}
 use Rattle.shapes.specs.Shapes.{shapeOf, Made, twelve}
-use lib.Seq.{sets}
 use Rattle.layout.specs.Parts.{countOf, entryAt, trianglesOf}
 use Rattle.layout.specs.Layout.{Layout}
 use Rattle.layout.specs.Recordings.{f64At}
@@ -105,20 +104,12 @@ module _ (file : List ℕ) where
   listTo zero = []
   listTo (suc n) = listTo n ++ testOf n
 
--- ---- the line of three numbers, and those of the first k triples
-abbrev pub lineOf : ℕ → ℕ → ℕ → List ℕ
-lineOf test train n = leakLine (record { test = test; train = train; pairs = n })
-
+-- ---- the lines of the first k triples
 unfoldable pub linesIn : List ℕ → ℕ → List ℕ
 linesIn found zero = []
 linesIn found (suc k) = linesIn found k ++ leakLine (leakAt found k)
 
--- ---- a text that fits, in the room from a place on, and the place behind it
-pub record Laid (room : List ℕ) (at : ℕ) (text : List ℕ) (after : List ℕ) (next : ℕ) : Type 0 where
-  pub after-is : after ≡ sets room at text
-  pub next-is : next ≡ at + length text
-
--- the list of these leaks in the room, or refusal 7
+-- ---- the list of these leaks in the room, or refusal 7
 abbrev pub textOf : List Leak → List ℕ
 textOf ls = firstLine (length ls) ++ leakLines ls
 

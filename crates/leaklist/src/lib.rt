@@ -19,9 +19,7 @@ use found::no_leaks;
 use prepared::no_shapes;
 use prepared::prepare;
 use words::lines_length;
-use words::put_first;
 use words::put_lines;
-use words::put_refusal;
 
 fn refused(number: u32, place: u32) -> listing::Listed
     ensures { λ r. ⌜ r ≡ refusedAs [] (said number place) .result ⌝ }
@@ -44,7 +42,7 @@ fn write(room: &mut [u8], found: &[u32], k: usize) -> listing::Listed
     if room.len() < size {
         return refused(7, 0);
     }
-    let p = put_first(room, count);
+    let p = wording::put_first(room, count);
     put_lines(room, p, found, k);
     listing::Listed {
         number: 0,
@@ -86,7 +84,7 @@ pub fn told(file: &[u8], room: &mut [u8]) -> usize
 {
     let a = leaks(file, room);
     if a.number != 0 {
-        return put_refusal(room, a.number, a.place);
+        return wording::put_refusal(room, a.number, a.place);
     }
     a.length
 }

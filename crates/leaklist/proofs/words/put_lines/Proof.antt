@@ -4,8 +4,10 @@ use borrow.Author.Needs.{needs}
 use denote.Ref.{now}
 use mathlib.Core.Path.{_≡_, ap}
 use native.Mathlib.Omega.{arith}
-use Rattle.leaklist.proofs.Lines.{laid-none, laid-turn, laid-length, laid-as, line-fits}
-use Rattle.leaklist.specs.Code.{linesIn, Laid}
+use Rattle.wording.proofs.Lines.{laid-put, laid-length, laid-as}
+use Rattle.leaklist.proofs.Lines.{laid-none, laid-turn, line-fits}
+use Rattle.wording.specs.Lines.{Laid}
+use Rattle.leaklist.specs.Code.{linesIn}
 use Rattle.leaklist.proofs.words.put_lines.Statement.{statement}
 use Rattle.leaklist.proofs.words.put_lines.Tie as tie
 
@@ -46,9 +48,7 @@ shared-slice-read-put-line-3 : tie.Need-shared-slice-read-put-line-3 Inv-loop μ
 shared-slice-read-put-line-3 c = search needs
 
 put-line-requires : tie.Need-put-line-requires Inv-loop μ-loop
-put-line-requires c κs = let l = c .before .before .before .before .before .loop in
-    let g = c .before .before .before .before .before .before .before .before .args in
-    line-fits (now (g .found)) (l .c) (g .k) (l .inv .1) (c .before .before .before .before .loop-test .taken) (c .before .before .before .before .before .before .before .before .pre .2)
+put-line-requires c κs = search needs
 
 add-c : tie.Need-add-c Inv-loop μ-loop
 add-c c = search needs
@@ -59,7 +59,9 @@ loop-less c = search needs
 loop-again : tie.Need-loop-again Inv-loop μ-loop
 loop-again c = let l = c .before .before .before .before .before .before .before .before .loop in
     let g = c .before .before .before .before .before .before .before .before .before .before .before .args in
-    (omega (arith, c .before .before .before .before .before .before .before .loop-test .taken), laid-turn (now (g .found)) (l .c) (l .inv .1) (c .before .before .put-line .ensures))
+    let t = c .before .before .before .before .before .before .before .loop-test .taken in
+    let fits = line-fits (now (g .found)) (l .c) (g .k) (l .inv .1) t (c .before .before .before .before .before .before .before .before .before .before .before .pre .2) in
+    (omega (arith, t), laid-turn (now (g .found)) (l .c) (l .inv .1) (laid-put (c .before .before .put-line .ensures) fits))
 
 same-length : tie.Need-same-length Inv-loop μ-loop
 same-length c = laid-length (c .before .loop .inv .1)

@@ -1,9 +1,9 @@
 -- Twenty bytes and three numbers.
 use borrow.Author.Needs.{needs}
 use native.Mathlib.Omega.{arith}
-use Rattle.leaklist.proofs.Lines.{line-length}
-use Rattle.leaklist.proofs.words.line_length.Statement.{statement}
-use Rattle.leaklist.proofs.words.line_length.Tie as tie
+use Rattle.wording.proofs.Lines.{line-length}
+use Rattle.wording.proofs.line_length.Statement.{statement}
+use Rattle.wording.proofs.line_length.Tie as tie
 
 width-requires : tie.Need-width-requires
 width-requires c κs = search needs

@@ -4,11 +4,11 @@ use borrow.Author.Needs.{needs}
 use denote.Ref.{now}
 use native.Mathlib.Omega.{arith}
 use Rattle.layout.specs.Verdict.{said}
-use Rattle.leaklist.proofs.Lines.{refused-length, refused-is, put-laid, laid-put, laid-two, laid-as, laid-length}
+use Rattle.wording.proofs.Lines.{refused-length, refused-is, put-laid, laid-put, laid-two, laid-as, laid-length}
 use Rattle.listing.specs.Words.{refusedLine}
 use Rattle.text.proofs.Laws.{put-nothing}
-use Rattle.leaklist.proofs.words.put_refusal.Statement.{statement}
-use Rattle.leaklist.proofs.words.put_refusal.Tie as tie
+use Rattle.wording.proofs.put_refusal.Statement.{statement}
+use Rattle.wording.proofs.put_refusal.Tie as tie
 
 width-requires : tie.Need-width-requires
 width-requires c κs = search needs

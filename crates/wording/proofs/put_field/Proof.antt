@@ -1,9 +1,9 @@
 -- A word, then a number behind it.
 use borrow.Author.Needs.{needs}
 use denote.Ref.{now}
-use Rattle.leaklist.proofs.Lines.{field-laid}
-use Rattle.leaklist.proofs.words.put_field.Statement.{statement}
-use Rattle.leaklist.proofs.words.put_field.Tie as tie
+use Rattle.wording.proofs.Lines.{field-laid}
+use Rattle.wording.proofs.put_field.Statement.{statement}
+use Rattle.wording.proofs.put_field.Tie as tie
 
 put-bytes-requires : tie.Need-put-bytes-requires
 put-bytes-requires c κs = search needs

@@ -1,9 +1,9 @@
 -- Three words with their numbers, then a line feed.
 use borrow.Author.Needs.{needs}
 use native.Mathlib.Omega.{arith}
-use Rattle.leaklist.proofs.Lines.{line-length, line-is, laid-put, laid-two, laid-as, laid-length}
-use Rattle.leaklist.proofs.words.put_line.Statement.{statement}
-use Rattle.leaklist.proofs.words.put_line.Tie as tie
+use Rattle.wording.proofs.Lines.{line-length, line-is, laid-put, laid-two, laid-as, laid-length}
+use Rattle.wording.proofs.put_line_in.Statement.{statement}
+use Rattle.wording.proofs.put_line_in.Tie as tie
 
 slice-aggregate-put-field : tie.Need-slice-aggregate-put-field
 slice-aggregate-put-field c = search needs
@@ -45,8 +45,8 @@ returns c = let g = c .before .before .before .before .before .before .before .b
     let e = laid-put (c .before .before .put-bytes .ensures) (omega (arith, c .before .before .before .before .before .before .before .before .before .before .before .before .before .before .before .before .before .before .before .before .before .pre, line-length (g .test) (g .train) (g .n), laid-length a, a .next-is, laid-length b, b .next-is, laid-length d, d .next-is)) in
     laid-as (line-is (g .test) (g .train) (g .n)) (laid-two (laid-two (laid-two a b) d) e)
 
-pub put-line-spec : {M : Type 1} → statement M
-put-line-spec =
+pub put-line-in-spec : {M : Type 1} → statement M
+put-line-in-spec =
     tie.close
     (tie.spec
     slice-aggregate-put-field

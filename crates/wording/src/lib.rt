@@ -1,0 +1,77 @@
+// The lines of lists and refusals, each put into a room whole or not at all.
+ghost use mathlib.Core.Path.{_≡_};
+ghost use mathlib.Core.List.{_++_};
+ghost use Prim.Native.Nat.{_+_, _≤_};
+ghost use lib.ListN.{length};
+ghost use Rattle.layout.specs.Verdict.{said};
+ghost use Rattle.text.specs.Decimal.{decimal};
+ghost use Rattle.text.specs.Room.{Put};
+ghost use Rattle.listing.specs.Words.{firstLine, refusedLine};
+ghost use Rattle.wording.specs.Lines.{lineOf, Laid};
+
+// A word and a number, from a place on; the place behind them.
+fn put_field(room: &mut [u8], at: usize, word: &[u8], n: u32) -> usize
+    requires { ⌜ at + (length (now word) + length (decimal n)) ≤ length (now room) ⌝ }
+    ensures { λ r. ⌜ Laid (now (room .entry)) at (now (word .entry) ++ decimal n) (now (room .exit)) r ⌝ }
+{
+    let p = text::put_bytes(room, at, word);
+    text::put_decimal(room, p, n)
+}
+
+// The length of a leak line.
+pub fn line_length(test: u32, train: u32, n: u32) -> usize
+    ensures { λ r. ⌜ (r ≡ length (lineOf test train n)) × (r ≤ 20000000000) ⌝ }
+{
+    20 + text::width(test) + text::width(train) + text::width(n)
+}
+
+// A leak line where there is room for it.
+fn put_line_in(room: &mut [u8], at: usize, test: u32, train: u32, n: u32) -> usize
+    requires { ⌜ at + length (lineOf test train n) ≤ length (now room) ⌝ }
+    ensures { λ r. ⌜ Laid (now (room .entry)) at (lineOf test train n) (now (room .exit)) r ⌝ }
+{
+    let p = put_field(room, at, b"test ", test);
+    let q = put_field(room, p, b" train ", train);
+    let r = put_field(room, q, b" pairs ", n);
+    text::put_bytes(room, r, b"\n")
+}
+
+// A leak line, from a place on; the place behind it. Where it does not fit, nothing is put, and the place stays.
+pub fn put_line(room: &mut [u8], at: usize, test: u32, train: u32, n: u32) -> usize
+    ensures { λ r. ⌜ Put (now (room .entry)) at (lineOf test train n) (now (room .exit)) r ⌝ }
+{
+    let size = line_length(test, train, n);
+    let most = room.len();
+    if most < size {
+        return at;
+    }
+    if most - size < at {
+        return at;
+    }
+    put_line_in(room, at, test, train, n)
+}
+
+// The first line of a list of k leaks, at the front, likewise.
+pub fn put_first(room: &mut [u8], k: u32) -> usize
+    ensures { λ r. ⌜ Put (now (room .entry)) 0 (firstLine k) (now (room .exit)) r ⌝ }
+{
+    let size = 7 + text::width(k);
+    if room.len() < size {
+        return 0;
+    }
+    let p = put_field(room, 0, b"leaks ", k);
+    text::put_bytes(room, p, b"\n")
+}
+
+// The line that says how a file is refused, likewise.
+pub fn put_refusal(room: &mut [u8], number: u32, place: u32) -> usize
+    ensures { λ r. ⌜ Put (now (room .entry)) 0 (refusedLine (said number place)) (now (room .exit)) r ⌝ }
+{
+    let whole = 13 + text::width(number) + text::width(place);
+    if room.len() < whole {
+        return 0;
+    }
+    let p = put_field(room, 0, b"refused ", number);
+    let q = put_field(room, p, b" at ", place);
+    text::put_bytes(room, q, b"\n")
+}
