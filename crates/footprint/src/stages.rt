@@ -56,13 +56,6 @@ fn trailer_end(table: u32, count: u32) -> usize
     table as usize + 12 * count as usize + 12
 }
 
-// Where the triangles of a recording end.
-fn part_end(first: u32, count: u32) -> usize
-    ensures { λ r. ⌜ r ≡ first + 24 * count ⌝ }
-{
-    first as usize + 24 * count as usize
-}
-
 // Whether one of the first i entries has this id.
 fn is_seen(file: &[u8], table: usize, i: usize, id: u32) -> bool
     requires { ⌜ (i ≤ 64) × (table ≡ tablePlace (now file)) × (table + 12 * i ≤ length (now file)) × (length (now file) ≤ 65536) ⌝ }
@@ -78,7 +71,7 @@ fn is_seen(file: &[u8], table: usize, i: usize, id: u32) -> bool
     false
 }
 
-pub(crate) fn refusal(found: u32, place: usize) -> layout::Verdict
+fn refusal(found: u32, place: usize) -> layout::Verdict
     requires { ⌜ place ≤ 65536 ⌝ }
     ensures { λ r. ⌜ r ≡ said found place ⌝ }
 {

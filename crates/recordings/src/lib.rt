@@ -1,6 +1,6 @@
 // The recordings of a footprint file, their parts, and what is read at any place of a file or a part.
 ghost use mathlib.Core.Path.{_≡_};
-ghost use Prim.Native.Nat.{_<_};
+ghost use Prim.Native.Nat.{_+_, _*_, _<_};
 ghost use Rattle.layout.specs.Bytes.{byteAt, u32At, i32At};
 ghost use Rattle.layout.specs.Parts.{entryFrom};
 ghost use Rattle.layout.specs.Verdict.{said};
@@ -111,6 +111,13 @@ pub fn recording(file: &[u8], k: usize) -> layout::Recording
     }
 }
 
+// Where the triangles of a recording end.
+fn part_end(first: u32, count: u32) -> usize
+    ensures { λ r. ⌜ r ≡ first + 24 * count ⌝ }
+{
+    first as usize + 24 * count as usize
+}
+
 // The triangles of recording k, as that part of the file's bytes; no bytes where `recording` refuses.
 pub fn part(file: &[u8], k: usize) -> &[u8]
     ensures { λ r. ⌜ Parted (now (file .entry)) k (now r) ⌝ }
@@ -120,6 +127,6 @@ pub fn part(file: &[u8], k: usize) -> &[u8]
         return &file[0..0];
     }
     let a = r.first as usize;
-    let b = a + 24 * r.count as usize;
+    let b = part_end(r.first, r.count);
     &file[a..b]
 }

@@ -1,4 +1,5 @@
 -- What is answered of a recording says where its part lies, and that this is in the file.
+use borrow.Author.Needs.{needs}
 use native.Mathlib.Omega.{arith}
 use denote.Ref.{now}
 use mathlib.Core.Path.{refl}
@@ -6,7 +7,6 @@ use Rattle.layout.specs.Recordings.{partOf}
 use Rattle.layout.specs.Promise.{Demand2}
 use Rattle.layout.proofs.Answered.{returned-two}
 use Rattle.recordings.proofs.Recorded.{no-part, part-is}
-use borrow.Author.Needs.{needs}
 use Rattle.recordings.proofs.part.Statement.{statement}
 use Rattle.recordings.proofs.part.Tie as tie
 
@@ -31,14 +31,8 @@ returns c = no-part _ _ (c .before .before .before .recording .ensures) (c .befo
 cast-a : tie.Need-cast-a
 cast-a c = search needs
 
-cast-b : tie.Need-cast-b
-cast-b c = search needs
-
-mul-b : tie.Need-mul-b
-mul-b c = search needs
-
-add-b : tie.Need-add-b
-add-b c = search needs
+part-end-requires : tie.Need-part-end-requires
+part-end-requires c κs = search needs
 
 sub-result-2 : tie.Need-sub-result-2
 sub-result-2 c = search needs
@@ -47,10 +41,10 @@ part-result-start-2 : tie.Need-part-result-start-2
 part-result-start-2 c = search needs
 
 part-result-end-2 : tie.Need-part-result-end-2
-part-result-end-2 c = let t = told (c .before .before) in omega (arith, t .inFile)
+part-result-end-2 c = let t = told (c .before .before) in omega (arith, t .inFile, c .part-end .ensures)
 
 returns-2 : tie.Need-returns-2
-returns-2 c = part-is _ _ (told (c .before .before .before)) refl
+returns-2 c = part-is _ _ (told (c .before .before .before)) (c .before .part-end .ensures)
 
 pub part-spec : {M : Type 1} → statement M
 part-spec =
@@ -62,9 +56,7 @@ part-spec =
     part-result-end
     returns
     cast-a
-    cast-b
-    mul-b
-    add-b
+    part-end-requires
     sub-result-2
     part-result-start-2
     part-result-end-2
