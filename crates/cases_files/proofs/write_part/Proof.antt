@@ -1,5 +1,5 @@
 -- Each turn writes one byte.
-use Prim.Native.Nat.{_≤_, _-_, _/_}
+use Prim.Native.Nat.{_≤_, _-_}
 use lib.ListN.{length}
 use borrow.Author.Needs.{needs}
 use Rattle.cases_files.proofs.write_part.Statement.{statement}
