@@ -3,3 +3,4 @@ pub mod Told
 pub mod Zero
 pub mod Same
 pub mod First
+pub mod OneAnswer

@@ -3,3 +3,4 @@ pub mod Finite
 pub mod Numbers
 pub mod Way
 pub mod Whole
+pub mod OneAnswer

@@ -4,6 +4,7 @@ use mathlib.Core.Path.{_≡_}
 use mathlib.Core.Logic.{_⊎_, _↔_}
 use mathlib.Core.List.{List, []}
 use lib.ListN.{length, take, drop}
+use Rattle.floats.specs.OneAnswer.{NoSecond}
 use Rattle.layout.specs.Parts.{countOf, entryAt}
 use Rattle.layout.specs.Verdict.{Row, numberOf, placeOf, said, good, verdict}
 use Rattle.layout.specs.Layout.{Layout}
@@ -26,9 +27,9 @@ Parted file k part = part ≡ partOf file k
 
 -- no second result meets any of them
 pub record NoSecondAnswer : Type 0 where
-  pub check : (file : List ℕ) (a b : Verdict) → Checked file a → Checked file b → a ≡ b
-  pub recording : (file : List ℕ) (k : ℕ) (a b : Recording) → Recorded file k a → Recorded file k b → a ≡ b
-  pub part : (file : List ℕ) (k : ℕ) (a b : List ℕ) → Parted file k a → Parted file k b → a ≡ b
+  pub check : (file : List ℕ) → NoSecond Verdict (Checked file)
+  pub recording : (file : List ℕ) (k : ℕ) → NoSecond Recording (Recorded file k)
+  pub part : (file : List ℕ) (k : ℕ) → NoSecond (List ℕ) (Parted file k)
 
 -- nothing beside a refusal's number and place
 pub record Zeros (r : Recording) : Type 0 where

@@ -8,6 +8,7 @@ use lib.Dec.{eqb}
 use lib.ListN.{length}
 use lib.Ieee.{Float}
 use Rattle.floats.specs.Finite.{nought}
+use Rattle.floats.specs.OneAnswer.{NoSecond}
 use Rattle.triangles.specs.declared.Answer.{Answer}
 use Rattle.triangles.specs.declared.Decision.{Decision}
 use Rattle.triangles.specs.declared.Decision.the-variants.{Refused, Ring, Apart}
@@ -58,7 +59,7 @@ pub record Decided (values : List Float) (result : Decision) : Type 0 where
 
 -- no second decision meets it
 abbrev pub NoSecondDecision : Type 0
-NoSecondDecision = (values : List Float) (r s : Decision) → Decided values r → Decided values s → r ≡ s
+NoSecondDecision = (values : List Float) → NoSecond Decision (Decided values)
 
 -- a pair meets exactly if its answer is a refusal or has corners
 abbrev pub MeetsExactlyIf : Type 0
