@@ -15,16 +15,16 @@ static void show(meskelow_answer answer, const double *room)
 
 int main(void)
 {
-    double values[12] = {1, 1, -3, 1, 1, -3, /* U */
-                         0, 0, 4, 0, 0, 4};  /* V, the reference */
-    double room[12]; /* lent for the corners: there are six at most */
+    double values[MESKELOW_VALUES] = {1, 1, -3, 1, 1, -3, /* U */
+                                      0, 0, 4, 0, 0, 4};  /* V, the reference */
+    double room[MESKELOW_CORNER_ROOM]; /* lent for the corners: there are six at most */
 
-    show(meskelow_intersect(values, 12, room, 12), room);
+    show(meskelow_intersect(values, MESKELOW_VALUES, room, MESKELOW_CORNER_ROOM), room);
 
-    values[0] = NAN; /* a coordinate that is not finite: refused by number 2, the room stays as it was */
-    show(meskelow_intersect(values, 12, room, 12), room);
+    values[0] = NAN; /* MESKELOW_REFUSED_NOT_FINITE, and the room stays as it was */
+    show(meskelow_intersect(values, MESKELOW_VALUES, room, MESKELOW_CORNER_ROOM), room);
 
-    /* NULL may stand for a slice of length 0; the lengths are wrong: number 1 */
+    /* NULL may stand for a slice of length 0; MESKELOW_REFUSED_LENGTHS */
     show(meskelow_intersect(NULL, 0, NULL, 0), NULL);
     return 0;
 }

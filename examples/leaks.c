@@ -5,11 +5,10 @@
 
 #include "meskelow.h"
 
-enum { MOST = 65536 }; /* bytes of a footprint file; no list has more */
-
 int main(int argc, char **argv)
 {
-    static uint8_t file[MOST + 1], room[MOST]; /* one byte more, so that a longer file is seen to be too long */
+    static uint8_t file[MESKELOW_LONGEST_FILE + 1]; /* one byte more, so that a longer file is seen to be too long */
+    static uint8_t room[MESKELOW_LIST_ROOM];
     const char *name = argc > 1 ? argv[1] : "";
     FILE *stream = fopen(name, "rb");
     size_t length = stream == NULL ? 0 : fread(file, 1, sizeof file, stream);

@@ -5,9 +5,7 @@
 
 #include "meskelow.h"
 
-enum { MOST = 65536 }; /* bytes of a footprint file */
-
-static const char *const sets[] = {"training", "test", "held back"};
+static const char *const sets[] = {[MESKELOW_TRAINING] = "training", [MESKELOW_TEST] = "test", [MESKELOW_HELD_BACK] = "held back"};
 
 /* One stored coordinate; six make a triangle. */
 static int32_t coordinate(const uint8_t *bytes)
@@ -35,7 +33,7 @@ static void show(const uint8_t *file, size_t length)
     printf("good\n");
     for (size_t k = 0;; k++) {
         meskelow_entry entry = meskelow_recording(file, length, k);
-        if (entry.number != 0) /* 10: that was the last one */
+        if (entry.number == MESKELOW_REFUSED_NO_RECORDING) /* the file is good, so no other refusal comes */
             return;
         printf("%s recording %" PRIu32 ":", sets[entry.set], entry.id);
         show_triangles(file + entry.first, entry.count);
@@ -44,7 +42,7 @@ static void show(const uint8_t *file, size_t length)
 
 int main(int argc, char **argv)
 {
-    static uint8_t file[MOST + 1]; /* one byte more, so that a longer file is seen to be too long */
+    static uint8_t file[MESKELOW_LONGEST_FILE + 1]; /* one byte more, so that a longer file is seen to be too long */
     for (int i = 1; i < argc; i++) {
         FILE *stream = fopen(argv[i], "rb");
         size_t length = stream == NULL ? 0 : fread(file, 1, sizeof file, stream);

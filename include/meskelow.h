@@ -26,14 +26,26 @@
 extern "C" {
 #endif
 
+/* Refusals have numbers, which are the rules' own, and names for them here. docs/RULES.md says which comes first where several
+ * apply. */
+
+enum {
+    MESKELOW_VALUES = 12,     /* values of two triangles */
+    MESKELOW_CORNER_ROOM = 12 /* room for the corners that they can share, in values */
+};
+
+/* A d or e that underflowed is zero too. */
+enum { /* refusals.tsv: triangles */
+    MESKELOW_REFUSED_LENGTHS = 1,    /* there are not twelve values, two for each vertex of U and V, or the room is shorter
+                                      * than twelve */
+    MESKELOW_REFUSED_NOT_FINITE = 2, /* a coordinate is not finite */
+    MESKELOW_REFUSED_FLAT_V = 3,     /* V is flat: its cross d is zero */
+    MESKELOW_REFUSED_OVERFLOW = 4,   /* a value that the rules compute is not finite */
+    MESKELOW_REFUSED_FLAT_U = 5      /* U is flat: its cross e is zero */
+};
+
 typedef struct {
-    uint32_t number;   /* 0: an answer. Else the refusal, and every other field is zero:
-                        *   1  values_len is not 12, or room_len is below 12
-                        *   2  a coordinate is not finite
-                        *   3  V is flat: its cross d is zero, which a d that underflowed is too
-                        *   4  a value that the rules compute on the way is not finite
-                        *   5  U is flat: its cross e is zero
-                        * The rules say which comes first where several apply. */
+    uint32_t number;   /* 0: an answer. Else one of the refusals above, and every other field is zero */
     uint32_t n;        /* corners of the ring that the two triangles share: 0, or 3 to 6. The first 2n values of the room are
                         * x and y of each, in the ring's order; positions may coincide */
     double area;       /* the ring's area, never negative; 0.0 without a ring. A ring can have area 0.0 too: n says whether
@@ -51,32 +63,52 @@ meskelow_answer meskelow_intersect(const double *values, size_t values_len, doub
 /* Footprint files: README.md has the format. A file is lent whole, as the bytes that it has. Reading it from a disk, and what
  * can go wrong with that, is the caller's. */
 
+enum {
+    MESKELOW_LONGEST_FILE = 65536 /* bytes. Who reads a file into such a buffer makes it a byte longer, so that a longer file is seen
+                                   * to be too long */
+};
+
+/* Entries are judged before 15, each for 14 and then for 16; triangles last, each for 17 and then 18. */
+enum { /* refusals.tsv: file */
+    MESKELOW_REFUSED_FILE_LENGTH = 11,   /* the file is shorter than 12 bytes or longer than 65,536 */
+    MESKELOW_REFUSED_STORED_LENGTH = 12, /* the length in the trailer is not the file's, as after a copy that was cut off */
+    MESKELOW_REFUSED_TRAILER = 13,       /* there are over 64 recordings, or the table's place, 12 for each recording and 12
+                                          * for the trailer do not add up to the length (place: the trailer) */
+    MESKELOW_REFUSED_ENTRY = 14,         /* an entry has no triangles, a set over 2 or a last byte that is not 0, or does not
+                                          * begin where the one before ends, the first at 0 (place: the entry) */
+    MESKELOW_REFUSED_TABLE = 15,         /* the last triangle does not end at the table, or there are no recordings and the
+                                          * table is not at 0 (place: the table) */
+    MESKELOW_REFUSED_SAME_ID = 16,       /* an entry has the id of an earlier one (place: the entry) */
+    MESKELOW_REFUSED_OUT_OF_RANGE = 17,  /* a coordinate is out of range, which is -1,000,000 to 1,000,000 (place: the
+                                          * triangle) */
+    MESKELOW_REFUSED_NO_AREA = 18        /* a triangle has no area (place: the triangle) */
+};
+
 typedef struct {
-    uint32_t number;   /* 0: the file has the format. Else the first refusal that applies:
-                        *  11  under 12 bytes, or over 65,536
-                        *  12  the stored length is not the file's
-                        *  13  over 64 recordings, or the table's place + 12 * recordings + 12 is not the length
-                        *  14  an entry has no triangles, a set over 2 or a last byte other than 0, or does not begin where the one
-                        *      before it ends, the first at 0
-                        *  15  the last triangle does not end at the table, or there are no recordings and the table is not at 0
-                        *  16  an entry's id was there before
-                        *  17  a coordinate is not within -1,000,000 to 1,000,000
-                        *  18  a triangle has no area
-                        * entries are judged before 15, each for 14 and then for 16; triangles last, each for 17 and then 18 */
-    uint32_t place;    /* where: the byte offset of the trailer (13), entry (14, 16), table (15) or triangle (17, 18), else 0 */
+    uint32_t number;   /* 0: the file has the format. Else the first of the refusals above that applies */
+    uint32_t place;    /* where, in bytes from the front of the file; 0 where no place is said above */
 } meskelow_verdict;
 
 meskelow_verdict meskelow_check(const uint8_t *file, size_t file_len);
 
+enum { /* the sets of recordings */
+    MESKELOW_TRAINING = 0,
+    MESKELOW_TEST = 1,
+    MESKELOW_HELD_BACK = 2
+};
+
+enum { /* refusals.tsv: recording */
+    MESKELOW_REFUSED_NO_RECORDING = 10 /* the file is good, but has no such recording */
+};
+
 typedef struct {
-    uint32_t number;   /* 0: an answer. Else the file's own refusal, or of a good file
-                        *  10  k is not below the count of recordings
+    uint32_t number;   /* 0: an answer. Else the file's own refusal, or the one above where k is not below the count of recordings,
                         * and every field below place is zero */
     uint32_t place;    /* the file's own, or 0 */
     uint32_t id;       /* of an answer, the table entry: id, */
     uint32_t first;    /* place of the first triangle, */
     uint32_t count;    /* count of triangles, one at least, */
-    uint32_t set;      /* 0 training, 1 test, 2 held back, */
+    uint32_t set;      /* MESKELOW_TRAINING, MESKELOW_TEST or MESKELOW_HELD_BACK, */
     uint32_t last;     /* and the entry's last byte, zero today */
 } meskelow_entry;
 
@@ -84,10 +116,16 @@ typedef struct {
  * little-endian int32_t each, x and y of three vertices in whole centimetres. Every call judges the whole file first. */
 meskelow_entry meskelow_recording(const uint8_t *file, size_t file_len, size_t k);
 
+enum {
+    MESKELOW_LIST_ROOM = 65536 /* bytes, which hold every list */
+};
+
+enum { /* refusals.tsv: list */
+    MESKELOW_REFUSED_LIST_ROOM = 7 /* the file is good, but the room is shorter than its whole leak list */
+};
+
 typedef struct {
-    uint32_t number;   /* 0: an answer. Else the file's own refusal, or of a good file
-                        *   7  room_len is below the length of the whole list
-                        * and every field below place is zero */
+    uint32_t number;   /* 0: an answer. Else the file's own refusal, or the one above, and every field below place is zero */
     uint32_t place;    /* the file's own, or 0 */
     size_t length;     /* of an answer, the list's bytes, at the front of the room; no NUL stands behind them */
     uint32_t leaks;    /* and how many leak lines it has: 0 says that no test recording meets a training recording */
@@ -95,7 +133,7 @@ typedef struct {
 
 /* The leak list of the file: `leaks K`, then for each test recording and training recording that meet, in table order, a line
  * `test T train R pairs N` with their ids and the number of triangle pairs that meet. Decimal numbers, a line feed after each
- * line. A room of 65,536 bytes holds every list. */
+ * line. */
 meskelow_list meskelow_leaks(const uint8_t *file, size_t file_len, uint8_t *room, size_t room_len);
 
 #ifdef __cplusplus

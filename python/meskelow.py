@@ -17,56 +17,64 @@ The library has to be made first, and again whenever the static library has chan
 
     rt staticlib meskelow && python3 python/meskelow.py build
 
-It is x86-64 Linux code, for a Python of that kind. Any number of threads may call it at once.
+It is x86-64 Linux code, for a Python of that kind. Any number of threads may call it at once. `leaks` needs 300 KB of stack: a
+thread has that, unless `threading.stack_size` or the system gave it less than 512 KB.
+
+A triangle is three vertices with two coordinates each, in lists, tuples or arrays such as numpy's. A coordinate is whatever Python
+takes for a float, and becomes one by Python's rules: a whole number may be rounded, and one that is beyond every float is an
+OverflowError. Text and complex numbers are a TypeError. A file is what lends its bytes: bytes, bytearray, memoryview, mmap or an
+array of any kind, by the bytes that it holds, in its order. A file's name is a TypeError.
 """
 
 from __future__ import annotations
 
 import ctypes
 import functools
+import numbers
+import operator
 import os
 import pathlib
 import platform
 import re
 import struct
 import sys
-from typing import Iterator, NamedTuple, Sequence, Tuple, Union
+from typing import Dict, Iterator, NamedTuple, Sequence, SupportsIndex, Tuple, Union
 
 ROOT = pathlib.Path(__file__).resolve().parent.parent
 ARCHIVE = ROOT / "target" / "staticlib" / "libmeskelow.a"
 LIBRARY = ROOT / "target" / "python" / "libmeskelow.so"
+REFUSALS = ROOT / "refusals.tsv"
 
 TRAINING, TEST, HELD_BACK = 0, 1, 2  # the sets of recordings
 
-Bytes = Union[bytes, bytearray, memoryview]
+# The refusals by name, from refusals.tsv.
+REFUSED_LENGTHS = 1
+REFUSED_NOT_FINITE = 2
+REFUSED_FLAT_V = 3
+REFUSED_OVERFLOW = 4
+REFUSED_FLAT_U = 5
+REFUSED_LIST_ROOM = 7
+REFUSED_NO_RECORDING = 10
+REFUSED_FILE_LENGTH = 11
+REFUSED_STORED_LENGTH = 12
+REFUSED_TRAILER = 13
+REFUSED_ENTRY = 14
+REFUSED_TABLE = 15
+REFUSED_SAME_ID = 16
+REFUSED_OUT_OF_RANGE = 17
+REFUSED_NO_AREA = 18
+
+Bytes = Union[bytes, bytearray, memoryview]  # or whatever else has a buffer
 Triangle = Sequence[Sequence[float]]  # three (x, y)
 Flags = Tuple[bool, bool, bool]
 
 _LEAK = re.compile("test ([0-9]+) train ([0-9]+) pairs ([0-9]+)")
 
-_REASONS = {
-    1: "there are not three vertices with two coordinates each",
-    2: "a coordinate is not finite",
-    3: "V is flat",
-    4: "a value that the rules compute is not finite",
-    5: "U is flat",
-    7: "the room is shorter than the list",
-    10: "the file is good, but has no such recording",
-    11: "the file is shorter than 12 bytes or longer than 65,536",
-    12: "the length in the trailer is not the file's",
-    13: "over 64 recordings, or table and trailer do not end with the file",
-    14: "an entry has no triangles, a set over 2 or a last byte that is not 0, or does not begin where the one before ends",
-    15: "the last triangle does not end at the table, or there are no recordings and the table is not at 0",
-    16: "an entry has the id of an earlier one",
-    17: "a coordinate is out of range",
-    18: "a triangle has no area",
-}
-
 
 class Refused(ValueError):
-    """There is no answer. `number` is the rules' refusal: 1 to 5 of two triangles, 11 to 18 of a file, 10 of a recording
-    that a good file does not have. (7 does not occur: a list gets all the room that it can need.) `place` is the byte offset
-    in the file that the refusal reports, or 0."""
+    """There is no answer. `number` is the rules' refusal, one of the numbers above: 1 to 5 of two triangles, 11 to 18 of a file, 10
+    of a recording that a good file does not have. (7 does not occur: a list gets all the room that it can need.) `place` is the
+    byte offset in the file that the refusal reports, or 0. The text has the words of refusals.tsv."""
 
     def __init__(self, number: int, place: int = 0) -> None:
         super().__init__(number, place)
@@ -74,7 +82,7 @@ class Refused(ValueError):
         self.place = place
 
     def __str__(self) -> str:
-        return f"refused {self.number} at {self.place}: {_REASONS.get(self.number, 'a number that has no words here')}"
+        return f"refused {self.number} at {self.place}: {_words().get(self.number, 'a number that has no words here')}"
 
 
 class LibraryError(RuntimeError):
@@ -117,10 +125,11 @@ class LeakList(NamedTuple):
 
 
 def intersect(u: Triangle, v: Triangle) -> Answer:
-    """What U and V share. V is the reference: exchanged they may give another answer, by rounding."""
+    """What U and V share. V is the reference: exchanged they may give another answer, by rounding. Raises `Refused`, 1 to 5, where
+    1 says that a triangle is not three vertices with two coordinates each."""
     if any(len(triangle) != 3 or any(len(vertex) != 2 for vertex in triangle) for triangle in (u, v)):
-        raise Refused(1)
-    values = (ctypes.c_double * 12)(*(c for triangle in (u, v) for vertex in triangle for c in vertex))
+        raise Refused(REFUSED_LENGTHS)
+    values = (ctypes.c_double * 12)(*(_real(c) for triangle in (u, v) for vertex in triangle for c in vertex))
     room = (ctypes.c_double * 12)()
     got = _library().meskelow_intersect(values, 12, room, 12)
     _raise_if_refused(got.number)
@@ -129,40 +138,36 @@ def intersect(u: Triangle, v: Triangle) -> Answer:
 
 
 def check(file: Bytes) -> None:
-    """Returns if these bytes are a good footprint file."""
+    """Returns None if these bytes are a good footprint file, and raises `Refused`, 11 to 18, if they are not. So it is called for
+    itself, not in an `if`."""
     lent = _lent(file)
     got = _library().meskelow_check(lent, len(lent))
     _raise_if_refused(got.number, got.place)
 
 
-def recording(file: Bytes, k: int) -> Recording:
-    """Recording k of the file, from 0. A number that is not there is refused, also one below 0: none counts from the end."""
+def recording(file: Bytes, k: SupportsIndex) -> Recording:
+    """Recording k of the file, from 0. What is no index of a list is none here: 1.0 is a TypeError, True is 1. Raises `Refused`,
+    11 to 18, or 10 for a number that is not there, also one below 0: none counts from the end."""
+    number = operator.index(k)
     lent = _lent(file)
     none = 2**64 - 1  # ctypes would cut a number to its lowest 64 bits
-    got = _library().meskelow_recording(lent, len(lent), k if 0 <= k <= none else none)
+    got = _library().meskelow_recording(lent, len(lent), number if 0 <= number <= none else none)
     _raise_if_refused(got.number, got.place)
-    numbers = struct.iter_unpack("<6i", lent[got.first : got.first + 24 * got.count])
-    triangles = tuple(((n[0], n[1]), (n[2], n[3]), (n[4], n[5])) for n in numbers)
-    return Recording(got.id, got.set, got.first, got.last, triangles)
+    triangles = struct.iter_unpack("<6i", lent[got.first : got.first + 24 * got.count])
+    return Recording(got.id, got.set, got.first, got.last, tuple(((n[0], n[1]), (n[2], n[3]), (n[4], n[5])) for n in triangles))
 
 
 def recordings(file: Bytes) -> Iterator[Recording]:
-    """All recordings of the file, in its order."""
+    """All recordings of the file, in its order. The call itself raises `Refused`, 11 to 18; of a good file all recordings come. The
+    iterator keeps the bytes as they were at the call. For each recording the library judges the whole file again, in microseconds."""
     lent = _lent(file)
-    k = 0
-    while True:
-        try:
-            found = recording(lent, k)
-        except Refused as refused:
-            if refused.number == 10:
-                return
-            raise
-        yield found
-        k += 1
+    check(lent)
+    count = int.from_bytes(lent[-8:-4], "little")  # in the trailer of a good file
+    return (recording(lent, k) for k in range(count))
 
 
 def leaks(file: Bytes) -> LeakList:
-    """The file's leak list."""
+    """The file's leak list. Raises `Refused`, 11 to 18. A thread needs 300 KB of stack for it (`threading.stack_size`)."""
     lent = _lent(file)
     room = ctypes.create_string_buffer(65536)
     got = _library().meskelow_leaks(lent, len(lent), room, len(room))
@@ -249,6 +254,23 @@ def _library() -> ctypes.CDLL:
         kind = f"it is x86-64 Linux code, and this Python is for {platform.machine()}"
         raise LibraryError(f"cannot load {LIBRARY} ({kind}): {error}; to make it again, {to_build}") from error
     return library
+
+
+@functools.lru_cache(maxsize=None)
+def _words() -> Dict[int, str]:
+    """What each refusal means; none where the table is not to be had, as an exception must have its text all the same."""
+    try:
+        rows = [line.split("\t") for line in REFUSALS.read_text(encoding="ascii").splitlines()[1:]]
+        return {int(number): words for number, _, _, _, words in rows}
+    except (OSError, ValueError):
+        return {}
+
+
+def _real(value: float) -> float:
+    """The value, if it is no complex number, of which numpy's would be cut to their real part. What else is no number, ctypes tells."""
+    if isinstance(value, numbers.Complex) and not isinstance(value, numbers.Real):
+        raise TypeError(f"a coordinate must be a real number, not {type(value).__name__}")
+    return value
 
 
 def _lent(file: Bytes) -> bytes:

@@ -1,7 +1,10 @@
 """Tests of meskelow.py with the library. What is expected was worked out by hand: the twelve cases and the example in docs/RULES.md
 and README.md."""
 
+import array
 import contextlib
+import decimal
+import fractions
 import functools
 import pathlib
 import pickle
@@ -9,6 +12,11 @@ import threading
 import unittest
 
 import meskelow
+
+try:
+    import numpy
+except ImportError:
+    numpy = None
 
 EXAMPLES = pathlib.Path(__file__).resolve().parent.parent / "examples"
 
@@ -33,6 +41,47 @@ def changed(place, byte):
 
 def flags(text):
     return tuple(c == "1" for c in text)
+
+
+class Whole:
+    """A whole number that is no int, as numpy's."""
+
+    def __init__(self, value):
+        self.value = value
+
+    def __index__(self):
+        return self.value
+
+
+class Scalar:
+    """A number that is no float, as numpy's float32 and the elements of tensors."""
+
+    def __init__(self, value):
+        self.value = value
+
+    def __float__(self):
+        return float(self.value)
+
+
+class Cut(complex):
+    """A complex number that would do for a float, as numpy's."""
+
+    def __float__(self):
+        return self.real
+
+
+class Array:
+    """A sequence that is no list: it has a length, and rows or numbers by their index."""
+
+    def __init__(self, rows):
+        self.rows = rows
+
+    def __len__(self):
+        return len(self.rows)
+
+    def __getitem__(self, i):
+        row = self.rows[i]
+        return Array(row) if isinstance(row, (list, tuple)) else row
 
 
 class Case(unittest.TestCase):
@@ -98,13 +147,42 @@ class Triangles(Case):
         for u, v in [(V[:2], four), (four, V[:2]), (V[:2], V), (V, []), (V, [(0, 0), (4, 0, 0), (4,)])]:
             with self.refused(1, 0):
                 meskelow.intersect(u, v)
-        for u in [("aa", "bb", "cc"), [(None, 0), (1, 0), (0, 1)]]:
+        for u in [("aa", "bb", "cc"), [(None, 0), (1, 0), (0, 1)], [0, 0, 1], 1, None]:
             with self.assertRaises(TypeError):
                 meskelow.intersect(u, V)
 
+    def test_kinds_of_triangles(self):
+        expected = meskelow.intersect(D, V)
+        for u, v in [(tuple(D), tuple(V)), ([list(c) for c in D], [array.array("d", c) for c in V]), (Array(D), Array(V))]:
+            self.assertEqual(meskelow.intersect(u, v), expected)
+
+    def test_kinds_of_numbers(self):
+        expected = meskelow.intersect(D, V)
+        for kind in (float, Scalar, Whole, fractions.Fraction, decimal.Decimal):
+            with self.subTest(kind=kind):
+                u, v = ([(kind(x), kind(y)) for x, y in triangle] for triangle in (D, V))
+                self.assertEqual(meskelow.intersect(u, v), expected)
+        self.assertEqual(meskelow.intersect([(True, True), (-3, True), (True, -3)], V), expected)
+        for value in (1j, 1 + 0j, Cut(1), "1", b"1", None, (1,), [1], object()):
+            with self.subTest(value=value), self.assertRaises(TypeError):
+                meskelow.intersect([(value, 1), (-3, 1), (1, -3)], V)
+
+    def test_large_numbers(self):
+        """What is beyond every f64 is an error of Python's; what an f64 has, or cannot tell from infinity, goes by the rules."""
+        for value in (10**400, -(10**400), fractions.Fraction(10**400)):
+            with self.assertRaises(OverflowError):
+                meskelow.intersect([(value, 1), (-3, 1), (1, -3)], V)
+        for value in (float("inf"), float("-inf"), 1e400, decimal.Decimal("1e400"), Scalar("nan")):
+            with self.subTest(value=value), self.refused(2, 0):
+                meskelow.intersect([(value, 1), (-3, 1), (1, -3)], V)
+        with self.refused(4, 0):
+            meskelow.intersect([(10**300, 1), (-3, 1), (1, -(10**300))], V)
+        whole = 2**53 + 1  # rounded to 2^53, as float() has it
+        self.assertEqual(meskelow.intersect([(whole, 0), (0, 9), (0, 0)], V), meskelow.intersect([(2.0**53, 0), (0, 9), (0, 0)], V))
+
 
 class Files(Case):
-    def test_check(self):
+    def test_check_has_no_answer(self):
         self.assertIsNone(meskelow.check(LEAK))
         self.assertIsNone(meskelow.check(EMPTY))
 
@@ -132,7 +210,35 @@ class Files(Case):
         self.assertEqual(meskelow.recording(LEAK, 0), first)
         self.assertEqual(meskelow.recording(LEAK, 1), second)
         self.assertEqual(list(meskelow.recordings(LEAK)), [first, second])
+        self.assertEqual(next(meskelow.recordings(LEAK)), first)
         self.assertEqual(list(meskelow.recordings(EMPTY)), [])
+
+    def test_recordings_are_refused_at_the_call(self):
+        with self.refused(12, 0):
+            meskelow.recordings(LEAK[:60])
+        with self.assertRaises(TypeError):
+            meskelow.recordings("leak.footprint")
+
+    def test_recordings_keep_the_bytes(self):
+        file = bytearray(LEAK)
+        found = meskelow.recordings(file)
+        file[:] = bytes(84)
+        self.assertEqual(list(found), list(meskelow.recordings(LEAK)))
+
+    def test_recordings_of_the_night(self):
+        night = (EXAMPLES / "night.footprint").read_bytes()
+        self.assertEqual([r.id for r in meskelow.recordings(night)], list(range(240917001, 240917058)))
+        self.assertEqual(list(meskelow.recordings(night)), [meskelow.recording(night, k) for k in range(57)])
+
+    def test_kinds_of_indexes(self):
+        for k in (1, True, Whole(1)):
+            self.assertEqual(meskelow.recording(LEAK, k).id, 9)
+        with self.refused(10, 0):
+            meskelow.recording(LEAK, Whole(-1))
+        for k in (1.0, float("nan"), "1", None, 1j, Scalar(1), fractions.Fraction(1), [1]):
+            for file in (LEAK, b""):
+                with self.subTest(k=k), self.assertRaises(TypeError):
+                    meskelow.recording(file, k)
 
     def test_recording_of_two_triangles(self):
         file = LEAK[:48] + bytes.fromhex("07000000 00000000 0200 00 00" "30000000 01000000 48000000")
@@ -163,12 +269,29 @@ class Files(Case):
         self.assertEqual(meskelow.leaks(changed(58, 1)), ((), "leaks 0\n"))  # both are test recordings
 
     def test_kinds_of_bytes(self):
-        for file in (bytearray(LEAK), memoryview(LEAK), memoryview(bytes(b for c in LEAK for b in (c, 1)))[::2]):
+        """By the bytes that they hold, whatever these are called, in their order."""
+        twice = bytes(b for c in LEAK for b in (c, 1))
+        numbers = memoryview(LEAK)
+        for file in (
+            bytearray(LEAK),
+            memoryview(LEAK),
+            memoryview(bytearray(LEAK)),
+            memoryview(twice)[::2],
+            memoryview(LEAK[::-1])[::-1],
+            array.array("B", LEAK),
+            array.array("i", LEAK),
+            numbers.cast("I"),
+            numbers.cast("c"),
+            numbers.cast("B", (7, 12)),
+        ):
             self.assertIsNone(meskelow.check(file))
+            self.assertEqual(meskelow.recording(file, 1).id, 9)
+            self.assertEqual(len(list(meskelow.recordings(file))), 2)
             self.assertEqual(meskelow.leaks(file).text, "leaks 1\ntest 9 train 7 pairs 1\n")
-        for file in ("leak.footprint", 84, list(LEAK), None):
-            with self.assertRaises(TypeError):
-                meskelow.leaks(file)
+        for file in ("leak.footprint", EXAMPLES / "leak.footprint", 84, list(LEAK), None):
+            for ask in (meskelow.check, meskelow.leaks, meskelow.recordings):
+                with self.assertRaises(TypeError):
+                    ask(file)
 
     def test_threads(self):
         texts = []
@@ -179,6 +302,72 @@ class Files(Case):
             thread.join()
         self.assertEqual(texts, ["leaks 1\ntest 9 train 7 pairs 1\n"] * 8)
 
+    def test_a_thread_with_little_stack(self):
+        night = (EXAMPLES / "night.footprint").read_bytes()
+        texts = []
+        before = threading.stack_size(512 * 1024)
+        self.addCleanup(threading.stack_size, before)
+        thread = threading.Thread(target=lambda: texts.append(meskelow.leaks(night).text))
+        thread.start()
+        thread.join()
+        self.assertEqual(texts, [(EXAMPLES / "night.expected").read_text()])
+
+
+@unittest.skipIf(numpy is None, "there is no numpy here")
+class Numpy(Case):
+    def test_triangles(self):
+        expected = meskelow.intersect(D, V)
+        for kind in ("f8", "f4", "f2", "i8", "i4", "i1", ">f8", "g", "O"):
+            with self.subTest(kind=kind):
+                pair = numpy.array([D, V], dtype=kind)
+                self.assertEqual(meskelow.intersect(*pair), expected)
+                self.assertEqual(meskelow.intersect(list(pair[0]), [tuple(c) for c in pair[1]]), expected)
+        pair = numpy.array([D, V], dtype="f8")
+        doubled = numpy.repeat(numpy.repeat(pair, 2, axis=1), 3, axis=2)
+        for u, v in [
+            (doubled[0, ::2, ::3], doubled[1, ::2, ::3]),
+            numpy.asfortranarray(pair),
+            pair[:, ::-1, ::-1][:, ::-1, ::-1],
+            (pair[0].T.copy().T, V),
+            (D, pair[1]),
+        ]:
+            self.assertEqual(meskelow.intersect(u, v), expected)
+
+    def test_answers_are_plain(self):
+        got = meskelow.intersect(*numpy.array([D, V], dtype="f4"))
+        self.assertEqual({type(c) for corner in got.ring for c in corner} | {type(got.area)}, {float})
+
+    def test_refused(self):
+        pair = numpy.array([D, V], dtype="f8")
+        for u in (pair, pair[0, :2], pair[0, :, :1], pair[0].T, numpy.zeros((3, 3)), numpy.zeros(12), numpy.zeros((0, 2))):
+            with self.subTest(shape=u.shape), self.refused(1, 0):
+                meskelow.intersect(u, V)
+        for value in (numpy.nan, numpy.inf):
+            pair[0, 0, 0] = value
+            with self.refused(2, 0):
+                meskelow.intersect(*pair)
+
+    def test_no_numbers(self):
+        for kind in ("c16", "c8", "G", "U4", "S4"):
+            pair = numpy.array([D, V], dtype=kind)
+            with self.subTest(kind=kind), self.assertRaises(TypeError):
+                meskelow.intersect(*pair)
+
+    def test_files(self):
+        file = numpy.frombuffer(LEAK, dtype="u1")
+        mapped = numpy.memmap(EXAMPLES / "leak.footprint", mode="r")
+        for lent in (file, file.view("<i4"), file.reshape(7, 12), numpy.repeat(file, 2)[::2], mapped):
+            self.assertEqual(meskelow.leaks(lent).text, "leaks 1\ntest 9 train 7 pairs 1\n")
+        with self.refused(12, 0):
+            meskelow.check(file[:60])
+
+    def test_indexes(self):
+        for kind in (numpy.int64, numpy.uint8, numpy.int32):
+            self.assertEqual(meskelow.recording(LEAK, kind(1)).id, 9)
+        for k in (numpy.float64(1), numpy.float32(1), numpy.nan):
+            with self.assertRaises(TypeError):
+                meskelow.recording(LEAK, k)
+
 
 class Errors(Case):
     def test_refused_is_a_value_error_with_words(self):
@@ -188,11 +377,27 @@ class Errors(Case):
         again = pickle.loads(pickle.dumps(refused))
         self.assertEqual((again.number, again.place), (13, 72))
 
+    def test_words(self):
+        for number, words in [
+            (meskelow.REFUSED_LENGTHS, "there are not twelve values"),
+            (meskelow.REFUSED_FLAT_V, "V is flat"),
+            (meskelow.REFUSED_STORED_LENGTH, "the length in the trailer is not the file's"),
+            (meskelow.REFUSED_NO_AREA, "a triangle has no area"),
+            (6000, "a number that has no words here"),
+        ]:
+            self.assertTrue(str(meskelow.Refused(number, 24)).startswith(f"refused {number} at 24: {words}"))
+
+    def test_no_words(self):
+        for table in (pathlib.Path("/nowhere/refusals.tsv"), EXAMPLES / "night.footprint", pathlib.Path(__file__)):
+            self.put("REFUSALS", table)
+            self.assertEqual(str(meskelow.Refused(13, 72)), "refused 13 at 72: a number that has no words here")
+
     def put(self, name, value):
         """Another value for a name of the module, until the test ends."""
-        self.addCleanup(meskelow._library.cache_clear)
+        for kept in (meskelow._library, meskelow._words):
+            self.addCleanup(kept.cache_clear)
+            kept.cache_clear()
         self.addCleanup(setattr, meskelow, name, getattr(meskelow, name))
-        meskelow._library.cache_clear()
         setattr(meskelow, name, value)
 
     def says(self, words, ask, *given):
