@@ -1,6 +1,7 @@
 //! The classes of pairs that a comparison draws from.
 
 mod flat;
+pub mod formulas;
 mod long;
 mod magnitudes;
 mod near;

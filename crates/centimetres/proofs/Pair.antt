@@ -16,7 +16,7 @@ use Rattle.floats.specs.Numbers.{Point, crossFrom}
 use Rattle.floats.specs.Way.{given, f64}
 use Rattle.floats.specs.Whole.{whole, isNotNegative}
 use Rattle.lines.specs.Lines.{sign, endOf, lowerEnd, higherEnd}
-use Rattle.lines.specs.Parameters.{Parameters, parameter, parameters, signs}
+use Rattle.lines.specs.Parameters.{Parameters, parameter, parametersBy, signs}
 use Rattle.order.specs.PairTest.{signsOfU}
 use Rattle.triangles.specs.Pair.{vertexOf, dOfV, eOfU, parametersOf, paramsOf, carriedBy, vertexSigns, signsBy, pairDOf}
 use Rattle.centimetres.specs.Centimetres.{InRange}
@@ -62,7 +62,7 @@ abbrev pub crossAt : List ℤ → ℕ → ℕ → ℕ → ℤ
 crossAt zs i j k = crossFrom whole (pointAt zs i) (pointAt zs j) (pointAt zs k)
 
 abbrev pub numbersAt : List ℤ → ℕ → Parameters ℤ
-numbersAt zs i = parameters whole (pointAt zs 3) (pointAt zs 4) (pointAt zs 5) (pointAt zs i)
+numbersAt zs i = parametersBy whole (crossAt zs 3 4 5) (pointAt zs 3) (pointAt zs 4) (pointAt zs 5) (pointAt zs i)
 
 -- twelve numbers in range
 pub record Twelve (zs : List ℤ) : Type 0 where
@@ -83,7 +83,7 @@ module _ {zs : List ℤ} (h : Twelve zs) where
 
   pub parameters-at : (i : ℕ) → i < 3 → WholeParameters (parametersOf (values zs) i) (numbersAt zs i)
   unfolding parametersOf
-  parameters-at i l = parameters-whole (point-whole 3 (lit< tt)) (point-whole 4 (lit< tt)) (point-whole 5 (lit< tt)) (point-whole i (omega arith))
+  parameters-at i l = parameters-whole d-whole (point-whole 3 (lit< tt)) (point-whole 4 (lit< tt)) (point-whole 5 (lit< tt)) (point-whole i (omega arith))
 
   carried-at : (i : ℕ) → i < 3 → WholeParameters (carriedBy (values zs) i) (numbersAt zs i)
   unfolding paramsOf
@@ -101,7 +101,7 @@ module _ {zs : List ℤ} (h : Twelve zs) where
   signs-at (suc (suc (suc i))) l = absurd (omega arith)
 
   pub sign-at : (i a : ℕ) → i < 3 → a < 3 → signsBy (values zs) i a ≡ isNotNegative (parameter (numbersAt zs i) a)
-  sign-at i a l b = ap (λ s. sign s a) (signs-at i l) ∙ sign-whole (carried-at i l) (unseen (pointAt zs 3) (pointAt zs 4) (pointAt zs 5) (pointAt zs i)) a b
+  sign-at i a l b = ap (λ s. sign s a) (signs-at i l) ∙ sign-whole (carried-at i l) (unseen (crossAt zs 3 4 5) (pointAt zs 3) (pointAt zs 4) (pointAt zs 5) (pointAt zs i)) a b
 
   -- parameters are below 2 ^ 45, products of two below 2 ^ 91
   pub pair-test-under : (t : ℕ × (ℕ × ℕ)) → Under 93 (pairDOf (values zs) t)

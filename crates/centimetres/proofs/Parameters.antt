@@ -10,7 +10,7 @@ use Rattle.floats.specs.Numbers.{Point, crossFrom}
 use Rattle.floats.specs.Way.{Way, _⊖_, negated, f64}
 use Rattle.floats.specs.Whole.{whole, isNotNegative, isNegative}
 use Rattle.lines.specs.Lines.{sign}
-use Rattle.lines.specs.Parameters.{Parameters, parameter, parameters, signs, lastUnseen, carried, valuesOf}
+use Rattle.lines.specs.Parameters.{Parameters, parameter, parametersBy, signs, lastUnseen, carried, valuesOf}
 use Rattle.centimetres.proofs.Zero.{le-exact, lt-exact}
 use Rattle.centimetres.proofs.Ways.{Whole, whole-minus, whole-times, whole-turned, whole-more, whole-given}
 
@@ -51,12 +51,11 @@ turned-whole b d x y = record {
   w = whole-minus (whole-minus (whole-turned b d) (whole-turned b x) (lit≤ tt)) (whole-turned b y) (lit≤ tt);
 }
 
-pub parameters-whole : {v0 v1 v2 u : Point Way} {Z0 Z1 Z2 Z : Point ℤ} → WholePoint v0 Z0 → WholePoint v1 Z1 → WholePoint v2 Z2 → WholePoint u Z
-    → WholeParameters (parameters f64 v0 v1 v2 u) (parameters whole Z0 Z1 Z2 Z)
-parameters-whole {v0} {v1} {v2} {u} {Z0} {Z1} {Z2} {Z} h0 h1 h2 h =
-    let d = cross-whole h0 h1 h2 in
-    subst (λ b. WholeParameters (turnedBy b (crossFrom f64 v0 v1 v2) (crossFrom f64 v0 u v2) (crossFrom f64 v0 v1 u)) (parameters whole Z0 Z1 Z2 Z))
-    (sym (lt-exact (d .exact))) (turned-whole (isNegative (crossFrom whole Z0 Z1 Z2)) d (cross-whole h0 h h2) (cross-whole h0 h1 h))
+pub parameters-whole : {d : Way} {D : ℤ} {v0 v1 v2 u : Point Way} {Z0 Z1 Z2 Z : Point ℤ} → Whole 8000000000000 d D → WholePoint v0 Z0 → WholePoint v1 Z1 → WholePoint v2 Z2 → WholePoint u Z
+    → WholeParameters (parametersBy f64 d v0 v1 v2 u) (parametersBy whole D Z0 Z1 Z2 Z)
+parameters-whole {d} {D} {v0} {v1} {v2} {u} {Z0} {Z1} {Z2} {Z} hd h0 h1 h2 h =
+    subst (λ b. WholeParameters (turnedBy b d (crossFrom f64 v0 u v2) (crossFrom f64 v0 v1 u)) (parametersBy whole D Z0 Z1 Z2 Z))
+    (sym (lt-exact (hd .exact))) (turned-whole (isNegative D) hd (cross-whole h0 h h2) (cross-whole h0 h1 h))
 
 -- carried on without their way
 pub carried-whole : {p : Parameters Way} {z : Parameters ℤ} → WholeParameters p z → WholeParameters (carried (valuesOf p)) z
@@ -85,11 +84,10 @@ turned-plus : (d : ℤ) → isNotNegative (cond (isNegative d) (negℤ d) d) ≡
 turned-plus (pos n) = refl
 turned-plus (negsuc n) = refl
 
-pub unseen : (Z0 Z1 Z2 Z : Point ℤ) → Unseen (parameters whole Z0 Z1 Z2 Z)
-unseen Z0 Z1 Z2 Z p q =
-    let d = crossFrom whole Z0 Z1 Z2 in
-    let z = parameters whole Z0 Z1 Z2 Z in
-    left-over (cond (isNegative d) (negℤ d) d) (z .x) (z .y) (turned-plus d) p q
+pub unseen : (D : ℤ) (Z0 Z1 Z2 Z : Point ℤ) → Unseen (parametersBy whole D Z0 Z1 Z2 Z)
+unseen D Z0 Z1 Z2 Z p q =
+    let z = parametersBy whole D Z0 Z1 Z2 Z in
+    left-over (cond (isNegative D) (negℤ D) D) (z .x) (z .y) (turned-plus D) p q
 
 pub sign-whole : {p : Parameters Way} {z : Parameters ℤ} → WholeParameters p z → Unseen z → (a : ℕ) → a < 3 → sign (signs f64 p) a ≡ isNotNegative (parameter z a)
 unfolding signs lastUnseen any

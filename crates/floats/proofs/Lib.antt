@@ -1,6 +1,6 @@
+pub mod Zero
 pub mod Lists
 pub mod Told
-pub mod Zero
 pub mod Same
 pub mod First
 pub mod OneAnswer

@@ -9,7 +9,7 @@ use Rattle.floats.specs.Lists.{all}
 use Rattle.floats.specs.Numbers.{Point}
 use Rattle.floats.specs.Way.{Way, f64, givenPoint}
 use Rattle.lines.specs.Lines.{three, lowerLine, upperLine}
-use Rattle.lines.specs.Parameters.{parameter, parameters}
+use Rattle.lines.specs.Parameters.{parameter, dOf, parametersBy}
 
 abbrev whole : ℕ → Float
 whole k = ofInt binary64 (pos k)
@@ -18,7 +18,7 @@ whole k = ofInt binary64 (pos k)
 abbrev onTheirLines : Point Way → Point Way → Point Way → Bool
 onTheirLines v0 v1 v2 =
     all (λ k.
-    let p = parameters f64 v0 v1 v2 (cond (eqb k 0) v0 (cond (eqb k 1) v1 v2)) in
+    let p = parametersBy f64 (dOf f64 v0 v1 v2) v0 v1 v2 (cond (eqb k 0) v0 (cond (eqb k 1) v1 v2)) in
     all (λ a. cond (eqb a (lowerLine k) || eqb a (upperLine k)) (f64 .isZero (parameter p a)) (eq (parameter p a .value) (whole 16))) three) three
 
 pub corners-on-their-lines : T (onTheirLines (givenPoint (whole 0) (whole 0)) (givenPoint (whole 4) (whole 0)) (givenPoint (whole 0) (whole 4)))

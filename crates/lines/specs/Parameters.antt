@@ -35,17 +35,13 @@ module _ (K : Numbers) where
   abbrev pub eOf : Point (K .N) → Point (K .N) → Point (K .N) → K .N
   eOf u0 u1 u2 = crossFrom K u0 u1 u2
 
-  -- x puts u in the place of V1 in d, y in the place of V2. A d below zero has its own sign and theirs turned; then w is what x and y leave of d
+  -- with d of V's corners: x puts u in the place of V1 in d, y in the place of V2. A d below zero has its own sign and theirs turned; then w is what x and y leave of d
   abbrev pub parametersBy : K .N → Point (K .N) → Point (K .N) → Point (K .N) → Point (K .N) → Parameters (K .N)
   parametersBy d v0 v1 v2 u =
       let turned : K .N → K .N = λ v. cond (K .isBelowZero d) (K .negate v) v in
       let x = turned (crossFrom K v0 u v2) in
       let y = turned (crossFrom K v0 v1 u) in
       record { x = x; y = y; w = K .minus (K .minus (turned d) x) y }
-
-  -- d is that of V's corners
-  abbrev pub parameters : Point (K .N) → Point (K .N) → Point (K .N) → Point (K .N) → Parameters (K .N)
-  parameters v0 v1 v2 u = parametersBy (dOf v0 v1 v2) v0 v1 v2 u
 
   -- a parameter that is ≥ 0 is plus, any other minus; w is the last
   unfoldable pub signs : Parameters (K .N) → List Bool

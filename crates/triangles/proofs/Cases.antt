@@ -1,7 +1,8 @@
--- The twelve cases, shown of the rules themselves: one computed test over the list, and what it says of each case. Assumes nothing.
+-- The twelve cases, shown of the rules themselves: one computed test over the list, and what it says of each case; and the witnesses, list by list. Assumes nothing.
 use mathlib.Core.Path.{_≡_}
+use mathlib.Core.Logic.{⊎-elim}
 use mathlib.Core.Bool.{Bool, _&&_, Bool·beq}
-use mathlib.Core.List.{List, _++_, List·Memᴰ}
+use mathlib.Core.List.{List, _++_, List·Memᴰ, List·Memᴰ·append-cases}
 use Prim.Native.Nat.{_*_}
 use lib.Dec.{T, eqb, eqb→eq}
 use lib.ListN.{length, drop}
@@ -12,6 +13,9 @@ use Rattle.floats.proofs.Lists.{all-at, same-bool, sameList, same-list}
 use Rattle.floats.proofs.Same.{sameFloat, same-float}
 use Rattle.triangles.specs.Answers.{Whole, wholeOf}
 use Rattle.triangles.specs.Cases.{Case, cases, lent, Shown}
+use Rattle.triangles.specs.Overflows.{overflows}
+use Rattle.triangles.specs.TiesAndZeros.{tiesAndZeros}
+use Rattle.triangles.specs.Formulas.{formulas}
 use Rattle.triangles.specs.Witnesses.{witnesses}
 
 sameFlags : List Bool → List Bool → Bool
@@ -43,9 +47,17 @@ all-right : T (all right cases)
 unfolding all right add sub mul div neg lt le eq ofInt ofBits
 all-right = tt
 
-witnesses-right : T (all right witnesses)
+overflows-right : T (all right overflows)
 unfolding all right add sub mul div neg lt le eq ofInt ofBits
-witnesses-right = tt
+overflows-right = tt
+
+ties-and-zeros-right : T (all right tiesAndZeros)
+unfolding all right add sub mul div neg lt le eq ofInt ofBits
+ties-and-zeros-right = tt
+
+formulas-right : T (all right formulas)
+unfolding all right add sub mul div neg lt le eq ofInt ofBits
+formulas-right = tt
 
 same-flags : (x y : List Bool) → T (sameFlags x y) → x ≡ y
 unfolding sameFlags
@@ -91,4 +103,7 @@ worked c m = shown c (all-at right cases all-right m)
 
 -- and each pair at the borders of the rules as the independent program has it
 pub witnessed : (c : Case) → List·Memᴰ c witnesses → Shown c
-witnessed c m = shown c (all-at right witnesses witnesses-right m)
+witnessed c m = shown c (⊎-elim (all-at right overflows overflows-right) others (List·Memᴰ·append-cases overflows m))
+  where
+    others : List·Memᴰ c (tiesAndZeros ++ formulas) → T (right c)
+    others m = ⊎-elim (all-at right tiesAndZeros ties-and-zeros-right) (all-at right formulas formulas-right) (List·Memᴰ·append-cases tiesAndZeros m)

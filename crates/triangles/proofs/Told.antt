@@ -32,7 +32,7 @@ module _ (l : List Float) where
 
   pub told-parameter : (i : ℕ) → ToldParameters (parametersOf l i)
   unfolding parametersOf
-  told-parameter i = told-parameters (cornerOf l 0) (cornerOf l 1) (cornerOf l 2) (vertexOf l i) (kept-vertex 3) (kept-vertex 4) (kept-vertex 5) (kept-vertex i)
+  told-parameter i = told-parameters (dOfV l) (cornerOf l 0) (cornerOf l 1) (cornerOf l 2) (vertexOf l i) told-d (kept-vertex 3) (kept-vertex 4) (kept-vertex 5) (kept-vertex i)
 
   -- a parameter that is carried has no way of its own
   kept-carried : (i a : ℕ) → Kept (parameter (carriedBy l i) a)

@@ -8,7 +8,7 @@ use lib.ListN.{getD, length, take}
 use lib.Ieee.{Float}
 use Rattle.floats.specs.Lists.{any}
 use Rattle.lines.specs.Lines.{three, lowerLine, upperLine}
-use Rattle.lines.specs.Round.{edgesAcross, cornerBy}
+use Rattle.lines.specs.Round.{hits, cornerBy, edgesAcross, Meets}
 use Rattle.ring.specs.Places.{Place, vertex, corner, crossing, ofV, lies}
 use Rattle.ring.specs.Flags.{crossingOn}
 use Rattle.ring.specs.Demand.{NoneOrThreeToSix, Holds, Closed}
@@ -25,8 +25,11 @@ foundIn l a (crossing e b) = crossingOn (signsBy l) (ordersBy l) e b
 
 -- of the ring's places, an answer and the room afterwards
 pub record Demand3 (l : List Float) (places : List Place) (answer : Answer) (after : List Float) : Type 0 where
-  -- each line of V is crossed by none or two edges of U
+  -- an edge of U crosses a line exactly if its ends have different signs there: its order has that line once, and no line else
+  pub meets : Meets (signsBy l) (ordersBy l)
+  -- each line of V is crossed by none or two edges of U, and each of these crossings is on the walk
   pub noneOrTwo : (a : ℕ) → (edgesAcross (signsBy l) a ≡ 0) ⊎ (edgesAcross (signsBy l) a ≡ 2)
+  pub allFound : (a : ℕ) → length (hits (signsBy l) (ordersBy l) a) ≡ edgesAcross (signsBy l) a
   -- both lines through a corner of V say the same of it, and the answer's flag is what they say
   pub lowerSays : (k : ℕ) → List·Memᴰ k three → cornerBy (signsBy l) (ordersBy l) (lowerLine k) (upperLine k) ≡ getD (answer .«v_in_u») k false
   pub upperSays : (k : ℕ) → List·Memᴰ k three → cornerBy (signsBy l) (ordersBy l) (upperLine k) (lowerLine k) ≡ getD (answer .«v_in_u») k false

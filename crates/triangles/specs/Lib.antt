@@ -10,4 +10,5 @@ pub mod Returned
 pub mod Cases
 pub mod Overflows
 pub mod TiesAndZeros
+pub mod Formulas
 pub mod Witnesses

@@ -9,7 +9,7 @@ use Rattle.floats.specs.Numbers.{Point}
 use Rattle.floats.specs.Way.{Way, f64, givenPoint}
 use Rattle.lines.specs.Lines.{signsAt}
 use Rattle.lines.specs.declared.Params.{Params}
-use Rattle.lines.specs.Parameters.{Parameters, dOf, eOf, parameters, carried, valuesOf}
+use Rattle.lines.specs.Parameters.{Parameters, dOf, eOf, parametersBy, carried, valuesOf}
 use Rattle.order.specs.PairTest.{signsOfU, pairDOn, outcomesOn}
 use Rattle.order.specs.Order.{decidedOn, ordersOf, orderAt}
 use Rattle.ring.specs.Places.{Place}
@@ -30,9 +30,10 @@ module _ (l : List Float) where
   unfoldable pub eOfU : Way
   eOfU = eOf f64 (vertexOf 0) (vertexOf 1) (vertexOf 2)
 
-  -- the parameters of vertex i, with every value on their way
+  -- the parameters of vertex i by this d, with every value on their way
   unfoldable pub parametersOf : ℕ → Parameters Way
-  parametersOf i = parameters f64 (cornerOf 0) (cornerOf 1) (cornerOf 2) (vertexOf i)
+  unfolding dOfV
+  parametersOf i = parametersBy f64 dOfV (cornerOf 0) (cornerOf 1) (cornerOf 2) (vertexOf i)
 
   -- the three numbers that vertex i carries
   unfoldable pub paramsOf : ℕ → Params

@@ -4,6 +4,7 @@ use mathlib.Core.List.{List, _++_}
 use Rattle.triangles.specs.Cases.{Case}
 use Rattle.triangles.specs.Overflows.{overflows}
 use Rattle.triangles.specs.TiesAndZeros.{tiesAndZeros}
+use Rattle.triangles.specs.Formulas.{formulas}
 
 abbrev pub witnesses : List Case
-witnesses = overflows ++ tiesAndZeros
+witnesses = overflows ++ (tiesAndZeros ++ formulas)

@@ -5,13 +5,14 @@ use std::io::{self, Write as _};
 use std::process::ExitCode;
 
 use second::case::Case;
-use second::classes::{draw, worked, CLASSES};
+use second::classes::{draw, formulas, worked, CLASSES};
 use second::coverage::Coverage;
 use second::random::Random;
 use second::tally::Tally;
 use second::triangles::{intersect, intersect_traced};
 
 const SEED: u64 = 300;
+/// How many there are before those that tell formulas apart.
 const CASES: usize = 320;
 /// How many cases of each class are taken as they come.
 const OF_EACH_CLASS: usize = 4;
@@ -37,7 +38,8 @@ fn main() -> ExitCode {
     }
 }
 
-/// The worked cases, some of each class, then whatever is still rare, then any.
+/// The worked cases, some of each class, then whatever is still rare, then any; last, those that tell
+/// formulas apart.
 fn chosen() -> Vec<Case> {
     let mut random = Random::new(SEED);
     let mut tally = Tally::default();
@@ -60,6 +62,7 @@ fn chosen() -> Vec<Case> {
             cases.push(case);
         }
     }
+    cases.extend(formulas::in_turn());
     cases
 }
 
