@@ -2,9 +2,9 @@
 -- the sign bit would compute here as well, and be seen to differ.) Assumes nothing.
 use mathlib.Core.Path.{_≡_, refl}
 use mathlib.Core.Bool.{true, false}
-use lib.Ieee.{nan, binary64, ofBits, toBits, neg, add, sub, le, lt, eq}
+use lib.Ieee.{nan, binary64, ofBits, toBits, neg, le, lt, eq}
 use Rattle.floats.specs.Finite.{nought}
-use Rattle.floats.specs.Way.{given, negated, f64}
+use Rattle.floats.specs.Way.{given, f64}
 
 pub zero-plus : f64 .isAtLeastZero (given nought) ≡ true
 unfolding le ofBits toBits
@@ -27,8 +27,3 @@ no-number-minus = refl
 pub zeros : (f64 .isZero (given nought) ≡ true) × (f64 .isZero (given (neg nought)) ≡ true) × (f64 .isBelowZero (given (neg nought)) ≡ false)
 unfolding eq lt neg ofBits
 zeros = (refl, refl, refl)
-
--- to negate is to turn the sign: zero becomes negative zero, which a difference from zero would not
-pub negated-zero : negated (given nought) .value ≡ ofBits binary64 0x8000_0000_0000_0000
-unfolding neg ofBits sub add
-negated-zero = refl

@@ -19,6 +19,7 @@ map-append : {A B : Type 0} (f : A → B) (x y : List A) → map f (x ++ y) ≡ 
 map-append f [] y = refl
 map-append f (a ∷ x) y = ap (f a ∷_) (map-append f x y)
 
+-- what decides of a corner: two crossings of one of its lines, and that their signs on the other are unlike
 apart-is : (b : ℕ) (l : List Crossing) → apart b l ≡ unlike (map (λ c. (c .signs) b) l)
 unfolding apart unlike
 apart-is b [] = refl
