@@ -9,7 +9,7 @@ use lib.Dec.{eqb, ltb}
 use borrow.Author.Tests.{eqb-true, eqb-false, ne-eqb, ltb-true, ltb-false}
 use lib.ListN.{length}
 use Rattle.layout.specs.declared.Verdict.{Verdict}
-use Rattle.layout.specs.Verdict.{Row, badLength, placeOf, verdict}
+use Rattle.layout.specs.Verdict.{Row, badLength, placeOf, said, verdict}
 use Rattle.layout.specs.Rows.{Before, First}
 use Rattle.layout.specs.Recordings.{recordingOf, partOf}
 use Rattle.layout.specs.Promise.{Demand1}
@@ -36,17 +36,17 @@ module _ (file : List ℕ) where
       none row (inl l) = omega (arith, l)
       none row (inr l) = let t = l .1 in omega (arith, t)
 
-  -- so it is refused at 0
-  at-front : 65536 < length file → verdict file .place ≡ 0
+  -- so it is refused at 0, whatever its bytes are
+  pub over-length : 65536 < length file → verdict file ≡ said 11 0
   unfolding placeOf
-  at-front h = ap (λ (v : Verdict). v .place) (demand .refusedBy badLength .1 (too-long h))
+  over-length h = demand .refusedBy badLength .1 (too-long h)
 
   -- and any place is at most 65,536
   place-most : verdict file .place ≤ 65536
   place-most = go (ltb 65536 (length file)) refl
     where
       go : (b : Bool) → ltb 65536 (length file) ≡ b → verdict file .place ≤ 65536
-      go true e = let z = at-front (ltb-true 65536 (length file) e) in omega (arith, z)
+      go true e = let z = ap (λ (v : Verdict). v .place) (over-length (ltb-true 65536 (length file) e)) in omega (arith, z)
       go false e = let p = demand .inFile in let l = ltb-false 65536 (length file) e in omega (arith, p, l)
 
   -- ---- the line of a refusal: thirteen bytes and two numbers

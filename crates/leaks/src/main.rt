@@ -3,68 +3,77 @@
 use libc::STDERR_FILENO;
 use libc::STDIN_FILENO;
 use libc::STDOUT_FILENO;
-ghost use Prim.Native.Nat.{_≤_};
-ghost use lib.ListN.{length};
+use reading::Got;
+use reading::Piece;
+ghost use mathlib.Core.Path.{_≡_};
+ghost use lib.ListN.{length, take};
+ghost use Rattle.listing.specs.Listing.{outputOf};
+ghost use Rattle.reading.specs.Reading.{Stopped};
+ghost use Rattle.leaks.specs.Answer.{Took, AtFront, Answered};
 
-// How many bytes were read, and whether no read failed.
-struct Got {
-    ok: bool,
-    n: usize,
-}
+// One byte more than a file may have.
+const SPACE: usize = 65537;
 
-fn read_some(fd: i32, part: &mut [u8]) -> Got
-    ensures { λ r. ⌜ r .n ≤ length (now (part .exit)) ⌝ }
+// No list has more bytes.
+const ROOM: usize = 65536;
+
+fn read_some(fd: i32, part: &mut [u8]) -> Piece
+    ensures { λ r. ⌜ Took (length (now (part .exit))) r ⌝ }
 {
     let got = libc::read(fd, part);
-    if got < 0 {
-        return Got { ok: false, n: 0 };
-    }
-    let n = io::count(got, part);
-    Got { ok: true, n }
+    reading::piece_of(got, part.len())
 }
 
-// Reads until the buffer is full, the input ends or a read fails.
-fn read_all(fd: i32, buf: &mut [u8]) -> Got
-    ensures { λ r. ⌜ r .n ≤ length (now (buf .exit)) ⌝ }
+// Reads until the space is full, the input ends or a read fails.
+fn read_all(fd: i32, space: &mut [u8]) -> Got
+    ensures { λ r. ⌜ Stopped (length (now (space .exit))) r ⌝ }
 {
     let mut n: usize = 0;
-    while n < buf.len() {
-        let g = read_some(fd, &mut buf[n..]);
-        let more = g.n;
-        let ok = g.ok;
-        if !ok {
-            return Got { ok: false, n };
-        }
-        if more == 0 {
-            return Got { ok: true, n };
-        }
-        n = n + more;
+    let mut last = Piece::More(0);
+    while n < space.len() {
+        last = read_some(fd, &mut space[n..]);
+        let Piece::More(k) = last else {
+            return Got { n, last };
+        };
+        n = n + k;
     }
-    Got { ok: true, n }
+    Got { n, last }
 }
 
-fn front(bytes: &[u8], n: usize) -> &[u8] {
-    if n <= bytes.len() {
-        &bytes[0..n]
-    } else {
-        &bytes[0..0]
-    }
+// What is to be said of a file, at the front of the room, and its length.
+fn output(file: &[u8], room: &mut [u8; ROOM]) -> usize
+    ensures { λ r. ⌜ AtFront (outputOf (now (file .entry))) (now (room .entry)) r (now (room .exit)) ⌝ }
+{
+    leaklist::told(file, room)
 }
 
-fn say(file: &[u8]) {
-    let mut room = [0u8; 65536];
-    let n = leaklist::told(file, &mut room);
-    if !io::write_all(STDOUT_FILENO, front(&room, n)) {
-        io::write_all(STDERR_FILENO, b"leaks: writing failed\n");
+// What is to be said of the input, where so much of it was read into the space: nothing, where a read failed.
+fn answer(g: Got, space: &[u8; SPACE], room: &mut [u8; ROOM]) -> usize
+    ensures { λ r. ⌜ Answered g (now (space .entry)) (now (room .entry)) r (now (room .exit)) ⌝ }
+{
+    let n = g.n;
+    if reading::is_read(g) {
+        return output(reading::front(space, n), room);
     }
+    0
+}
+
+// The first n bytes of the room.
+fn text(room: &[u8; ROOM], n: usize) -> &[u8]
+    ensures { λ r. ⌜ now r ≡ take n (now (room .entry)) ⌝ }
+{
+    reading::front(room, n)
 }
 
 fn main() {
-    let mut space = [0u8; 65537];
+    let mut space = [0u8; SPACE];
+    let mut room = [0u8; ROOM];
     let g = read_all(STDIN_FILENO, &mut space);
-    if g.ok {
-        say(front(&space, g.n));
-    } else {
+    let n = answer(g, &space, &mut room);
+    if !io::write_all(STDOUT_FILENO, text(&room, n)) {
+        io::write_all(STDERR_FILENO, b"leaks: writing failed\n");
+    }
+    if !reading::is_read(g) {
         io::write_all(STDERR_FILENO, b"leaks: reading failed\n");
     }
 }
