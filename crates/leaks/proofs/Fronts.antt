@@ -1,12 +1,12 @@
 -- What is told of a file in a room of 65,536 bytes stands whole at its front. Assumes nothing.
 use Prim.Native.Nat.{ℕ, _+_, _<_, _≤_}
-use mathlib.Core.Path.{_≡_, refl, sym, ap, subst, _∙_}
-use mathlib.Core.Bool.{true, false}
+use mathlib.Core.Path.{_≡_, refl, sym, ap, ap₂, subst, _∙_}
+use mathlib.Core.Bool.{true, false, false≢true}
 use mathlib.Core.List.{List, [], _++_}
 use native.Mathlib.Omega.{arith}
 use native.Mathlib.Nat.{zero-add}
-use lib.ListN.{length, take, drop}
-use lib.Seq.{take-append-seam, drop-append-seam}
+use lib.ListN.{length, take, drop, take-append-drop}
+use lib.Seq.{take-all, take-append-seam, drop-append-seam}
 use borrow.Author.Tests.{le-leb}
 use Rattle.text.specs.Room.{laid, behind, Put}
 use Rattle.listing.specs.Listing.{outputOf}
@@ -14,8 +14,10 @@ use Rattle.listing.specs.Enough.{Bytes}
 use Rattle.leaklist.specs.Code.{toldOf}
 use Rattle.leaklist.proofs.Said.{said-whole}
 use Rattle.reading.specs.declared.Got.{Got}
-use Rattle.reading.specs.Reading.{isRead}
-use Rattle.leaks.specs.Answer.{AtFront, saidOf, Answered}
+use Rattle.reading.specs.declared.Piece.{Piece}
+use Rattle.reading.specs.declared.Piece.the-variants.{Failed, Ended, More}
+use Rattle.reading.specs.Reading.{isRead, Stopped}
+use Rattle.leaks.specs.Answer.{AtFront, NoSecondFront, Delivered, Answered}
 use Rattle.leaks.proofs.FirstBytes.{first-bytes}
 
 -- a text that is put at place 0, and fits, stands at the front
@@ -37,14 +39,34 @@ told-at-front file room {after} {n} bytes large p =
     let s = said-whole file room bytes large in
     at-front (outputOf file) room (s .fits) (subst (λ t. Put room 0 t after n) (s .whole) p)
 
+-- no second length and no second room
+pub unique-front : NoSecondFront
+unique-front text room a b m n p q =
+    let same = p .length-is ∙ sym (q .length-is) in
+    let front : take m a ≡ take m b = p .front ∙ (sym (q .front) ∙ ap (λ k. take k b) (sym same)) in
+    let rest : drop m a ≡ drop m b = p .rest ∙ (ap (λ k. drop k room) same ∙ (sym (q .rest) ∙ ap (λ k. drop k b) (sym same))) in
+    (same, sym (take-append-drop m a) ∙ (ap₂ _++_ front rest ∙ take-append-drop m b))
+
 module _ (g : Got) (space room : List ℕ) where
+  -- what was delivered is all of the input, or as much as there is space for
+  as-much : (input : List ℕ) → isRead (g .last) ≡ true → Stopped (length space) g → Delivered g space input → take (g .n) space ≡ take (length space) input
+  as-much input ok s d = go (g .last) refl
+    where
+      go : (p : Piece) → g .last ≡ p → take (g .n) space ≡ take (length space) input
+      go Failed e = absurd (false≢true (sym (ap isRead e) ∙ ok))
+      go Ended e =
+          let l = d .ended e in
+          let w = s .within in
+          d .bytes ∙ (take-all (g .n) input (omega (arith, l)) ∙ sym (take-all (length space) input (omega (arith, l, w))))
+      go (More k) e = d .bytes ∙ ap (λ m. take m input) (s .full k e)
+
   -- an answer of what was read: in a space of 65,537 bytes there is enough of any input
   pub of-read : {after : List ℕ} {n : ℕ} → 65537 ≤ length space → isRead (g .last) ≡ true → AtFront (outputOf (take (g .n) space)) room n after → Answered g space room n after
-  of-read {after} {n} enough ok p = record {
+  of-read enough ok p = record {
     said = rw ok p;
-    whole = λ _ input same. p .front ∙ (ap outputOf same ∙ first-bytes (length space) enough input);
+    whole = λ _ s input d. p .front ∙ (ap outputOf (as-much input ok s d) ∙ first-bytes (length space) enough input);
   }
 
-  -- and nothing, where a read failed
+  -- and none, where a read failed
   pub of-failed : isRead (g .last) ≡ false → Answered g space room 0 room
-  of-failed failed = record { said = rw failed (record { length-is = refl; front = refl; rest = refl }); whole = λ ok. absurd (let z : _≡_ {A = ℕ} 0 1 = cc in omega arith) }
+  of-failed failed = record { said = rw failed (record { length-is = refl; front = refl; rest = refl }); whole = λ ok. absurd (false≢true (sym failed ∙ ok)) }

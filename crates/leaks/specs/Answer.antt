@@ -9,7 +9,8 @@ use Rattle.libc.specs.Io.{Moved}
 use Rattle.listing.specs.Listing.{outputOf}
 use Rattle.reading.specs.declared.Got.{Got}
 use Rattle.reading.specs.declared.Piece.{Piece}
-use Rattle.reading.specs.Reading.{pieceOf, isRead}
+use Rattle.reading.specs.declared.Piece.the-variants.{Ended}
+use Rattle.reading.specs.Reading.{pieceOf, isRead, Stopped}
 
 -- of a read of at most so many bytes: some answer that read may give, as it is to be taken
 abbrev pub Took : ℕ → Piece → Type 0
@@ -21,15 +22,24 @@ pub record AtFront (text room : List ℕ) (n : ℕ) (after : List ℕ) : Type 0 
   pub front : take n after ≡ text
   pub rest : drop n after ≡ drop n room
 
+-- no second length and no second room meets it
+abbrev pub NoSecondFront : Type 0
+NoSecondFront = (text room a b : List ℕ) (m n : ℕ) → AtFront text room m a → AtFront text room n b → (m ≡ n) × (a ≡ b)
+
 -- what is said of the bytes that were read into the space: nothing, where a read failed
 abbrev pub saidOf : Got → List ℕ → List ℕ
 saidOf g space = cond (isRead (g .last)) (outputOf (take (g .n) space)) []
 
+-- what the reads are trusted with: the bytes in the space are the input's, from its first on, and where a read says that the input has ended, there are no more
+pub record Delivered (g : Got) (space input : List ℕ) : Type 0 where
+  pub bytes : take (g .n) space ≡ take (g .n) input
+  pub ended : g .last ≡ Ended → g .n ≡ length input
+
+-- what is promised of the answer: what is said stands at the front of the room; and where the reading stopped as promised and the bytes were delivered, it is what is to be said of the whole input
 pub record Answered (g : Got) (space room : List ℕ) (n : ℕ) (after : List ℕ) : Type 0 where
   pub said : AtFront (saidOf g space) room n after
-  -- where the space has as much of an input as it can hold, this is what is to be said of the whole input
-  pub whole : isRead (g .last) ≡ true → (input : List ℕ) → take (g .n) space ≡ take (length space) input → take n after ≡ outputOf input
+  pub whole : isRead (g .last) ≡ true → Stopped (length space) g → (input : List ℕ) → Delivered g space input → take n after ≡ outputOf input
 
--- what is said of an input turns on its first 65,537 bytes
+-- what is to be said of an input turns on its first 65,537 bytes
 abbrev pub FirstBytes : Type 0
 FirstBytes = (most : ℕ) → 65537 ≤ most → (input : List ℕ) → outputOf (take most input) ≡ outputOf input
