@@ -1,0 +1,202 @@
+# shellcheck shell=bash
+# A proved program that is fresh: `find_program` finds it, or builds it with the kit's rt, and shows the progress. For a command that has command.sh, and
+# `root`, the repository.
+# shellcheck disable=SC2034,SC2154 # the command's own
+
+# ---- what a program is built from
+
+declare -A needs=() # of each crate
+crates=()           # the program's own, and all that it needs
+parts=()            # what rt looks at in them
+
+crates_of() { # program
+    local line crate part i
+    needs=() crates=("$1") parts=()
+    while IFS= read -r line || [ -n "$line" ]; do
+        line="${line%%#*}"
+        crate="${line%%:*}"
+        crate="${crate//[[:blank:]]/}"
+        [[ $line != *:* || -z $crate ]] || needs[$crate]="${line#*:}"
+    done <"$root/crates.txt"
+    for ((i = 0; i < ${#crates[@]}; i++)); do
+        for crate in ${needs[${crates[i]}]-}; do
+            [ -z "${needs[$crate]+listed}" ] || [[ " ${crates[*]} " = *" $crate "* ]] || crates+=("$crate")
+        done
+        for part in src specs proofs stdin stdout args data; do
+            [ ! -e "$root/crates/${crates[i]}/$part" ] || parts+=("crates/${crates[i]}/$part")
+        done
+    done
+}
+
+digest() {
+    local line
+    line="$(sha256sum)" && echo "${line%% *}"
+}
+
+# Prints a digest of the contents of all that the program is built from. Times say nothing: a file may be restored with an old one.
+sources() {
+    local crate
+    [ ${#parts[@]} -gt 0 ] || return 1
+    {
+        for crate in "${crates[@]}"; do
+            printf '%s:%s\n' "$crate" "${needs[$crate]-}"
+        done
+        cd "$root" && find "${parts[@]}" -type f -print0 | sort -z | xargs -0 sha256sum
+    } | digest
+}
+
+# ---- a program that is fresh
+
+# Prints what the record of a build says of the program as it stands.
+state() { # kit, sources
+    local program
+    program="$(digest <"$made")" && printf '%s\n' "kit $1" "machine $machine" "sources $2" "program $program"
+}
+
+# A build that went well leaves a record. Where there is no rt to ask for its kit, the kit is not compared.
+is_fresh() {
+    local recorded kit now
+    [ -x "$made" ] && [ -f "$record" ] && recorded="$(<"$record")" || return 1
+    kit="$(rt version 2>/dev/null)" || { kit="${recorded%%$'\n'*}" && kit="${kit#kit }"; }
+    now="$(sources)" && now="$(state "$kit" "$now")" && [ "$now" = "$recorded" ]
+}
+
+# Sets `program`, the words that run it. Elsewhere than on x86-64 they are those of rt, with the kit's emulator.
+find_program() { # program
+    machine="$(uname -m)" || cannot 'cannot tell the kind of this machine'
+    made="$root/target/bin/$1"
+    record="$root/target/built/$1" # of what it was built, and what came of it
+    mark="$root/target/building"   # the program that is being built, since when, and of what
+    crates_of "$1" || cannot "cannot read $root/crates.txt"
+    if ! is_fresh; then
+        { exec 9<"$root/crates"; } 2>/dev/null || cannot "cannot read $root/crates"
+        wait_for_lock
+        crates_of "$1" || cannot "cannot read $root/crates.txt"
+        is_fresh || build "$1" # else whoever had the lock has built it
+        exec 9<&-
+    fi
+    program=("$made")
+    [ "$machine" != x86_64 ] || return 0
+    local guide tools
+    guide="$(rt doc)" || cannot "'rt' of the Rattle kit, which has the emulator, cannot be run"
+    tools="${guide%/docs/*}/on/$machine/toolchain"
+    unset -v "${!QEMU_@}"
+    program=("$tools/bin/qemu-x86_64" "$tools/lib/ld-linux-x86-64.so.2" --library-path "$tools/lib" "$made")
+}
+
+# ---- a build
+
+building= # yes while rt runs
+
+at_end() {
+    [ -z "$building" ] || settle || :
+}
+
+# One build at a time. rt inherits the lock: if this script is killed, the next one waits for what is left of rt.
+wait_for_lock() {
+    ! locked || return 0
+    say 'another build is running, and this one waits for it'
+    until locked; do
+        [ ! -t 2 ] || progress
+        nap
+    done
+    erase
+}
+
+locked() {
+    local ended=0
+    flock -n 9 || ended=$?
+    [ "$ended" -le 1 ] || cannot "cannot lock $root/crates"
+    return "$ended"
+}
+
+# Half a second, or until rt has ended.
+nap() {
+    # shellcheck disable=SC2217 # it is to hold none of these
+    sleep 0.5 9<&- </dev/null >/dev/null 2>&1 &
+    wait -n || :
+}
+
+build() { # program
+    local kit before rt stamp="$root/target/stamp/$1" written="cannot write below $root/target" ended=0
+    command -v rt >/dev/null || cannot "the program is not built, or of other sources, and 'rt' of the Rattle kit is not on the path"
+    kit="$(rt version)" || cannot "'rt' of the Rattle kit cannot be run"
+    say 'proving and building the program, which takes minutes if it is new'
+    building=yes
+    settle || : # a build that was killed
+    before="$(sources)" || cannot "cannot read the sources in $root/crates"
+    # rt compares sources alone. It makes the program again, unless that is as it was when rt stamped it, which without a record only the kernel's times tell.
+    [[ ! -e $record && -e $made && -e $stamp && -z "$(find "$made" -newercc "$stamp" 2>&1)" ]] || rm -f "$made" "$stamp" || cannot "$written"
+    { rm -f "$record" && mkdir -p "$root/target/built" && printf '%s %(%s)T %s\n' "$1" -1 "$before" >"$mark"; } || cannot "$written"
+    # What rt leaves in its temporary directory goes with that of this script. It runs programs there, as nobody if it is root.
+    chmod 711 "$scratch"
+    : >"$scratch/said" || cannot 'cannot write to the temporary directory'
+    # Four checks at a time: rt begins the next only when all that run have ended, and of two one is soon waiting for the other.
+    (
+        trap - PIPE XFSZ
+        cd "$root" && TMPDIR="$scratch" RT_JOBS="${RT_JOBS:-4}" exec setsid rt check "$1"
+    ) >"$scratch/said" 2>&1 </dev/null &
+    rt=$!
+    while kill -0 "$rt" 2>/dev/null; do
+        progress
+        nap
+    done
+    wait "$rt" || ended=$?
+    progress
+    erase
+    chmod 700 "$scratch"
+    settle || cannot 'the sources were changed while they were proved: start again'
+    building=
+    if [ "$ended" -ne 0 ]; then
+        cat "$scratch/said" >&2 || :
+        cannot "the program is not built: 'rt check $1' failed"
+    fi
+    [ -x "$made" ] || cannot "'rt check $1' made no $made"
+    { state "$kit" "$before" >"$record.new" && mv "$record.new" "$record"; } || cannot "$written"
+}
+
+# Ends the build that the mark tells of. If a source was changed meanwhile, rt may have stamped one state of it and proved another: then no stamp is kept.
+settle() {
+    local built began before crate changed=1
+    { read -r built began before <"$mark" && [ -n "$before" ]; } 2>/dev/null || return 0
+    crates_of "$built" || return 1
+    if [ -z "$(cd "$root" && find crates.txt "${parts[@]}" -newercm "$mark" -print -quit 2>&1)" ] && [ "$(sources)" = "$before" ]; then
+        changed=0
+    else
+        for crate in "${crates[@]}"; do
+            rm -f "$root/target/stamp/$crate"
+        done
+    fi
+    rm -f "$mark"
+    return "$changed"
+}
+
+watched=               # the mark of the build whose progress is shown
+declare -A finished=() # the crates that it has proved
+
+# Shows how far the build is that the mark tells of: on a terminal in place, elsewhere by a line for each crate that is proved.
+progress() {
+    local built began before now crate lines i under_way=''
+    { read -r built began before <"$mark" && [ -n "$before" ]; } 2>/dev/null || return 0
+    if [ "$watched" != "$built $began $before" ]; then
+        watched="$built $began $before" finished=()
+        crates_of "$built" || return 0
+    fi
+    printf -v now '%(%s)T' -1
+    for ((i = ${#crates[@]} - 1; i >= 0; i--)); do
+        crate="${crates[i]}"
+        # rt opens this file when it begins with the crate, and the last line is its own.
+        if [ -n "${finished[$crate]-}" ] || [ ! "$root/target/log/$crate.out" -nt "$mark" ]; then continue; fi
+        mapfile -t lines <"$root/target/log/$crate.out"
+        case "${lines[*]: -1}" in
+        "rt: $crate proved (unchanged "*) finished[$crate]=yes ;;
+        "rt: $crate proved "*)
+            finished[$crate]=yes
+            [ -t 2 ] || say "proved ${#finished[@]} of ${#crates[@]} crates, $crate ($((now - began)) s so far)"
+            ;;
+        "rt: $crate NOT PROVED"*) ;;
+        *) under_way+=", $crate" ;;
+        esac
+    done
+    [ ! -t 2 ] || in_place "$name: proved ${#finished[@]} of ${#crates[@]} crates${under_way/,/, proving} ($((now - began)) s so far)"
+}
