@@ -1,4 +1,4 @@
--- What is told of a file in a room of 65,536 bytes stands whole at its front. Assumes nothing.
+-- What is told of a file stands whole at the front of a room of 65,536 bytes, and what is said of the bytes in a space of 65,537 is what is to be said of the whole input. Assumes nothing.
 use Prim.Native.Nat.{ℕ, _+_, _<_, _≤_}
 use mathlib.Core.Path.{_≡_, refl, sym, ap, ap₂, subst, _∙_}
 use mathlib.Core.Bool.{true, false, false≢true}
@@ -17,7 +17,7 @@ use Rattle.reading.specs.declared.Got.{Got}
 use Rattle.reading.specs.declared.Piece.{Piece}
 use Rattle.reading.specs.declared.Piece.the-variants.{Failed, Ended, More}
 use Rattle.reading.specs.Reading.{isRead, Stopped}
-use Rattle.leaks.specs.Answer.{AtFront, NoSecondFront, Delivered, Answered}
+use Rattle.leaks.specs.Answer.{AtFront, NoSecondFront, saidOf, Delivered}
 use Rattle.leaks.proofs.FirstBytes.{first-bytes}
 
 -- a text that is put at place 0, and fits, stands at the front
@@ -60,13 +60,15 @@ module _ (g : Got) (space room : List ℕ) where
           d .bytes ∙ (take-all (g .n) input (omega (arith, l)) ∙ sym (take-all (length space) input (omega (arith, l, w))))
       go (More k) e = d .bytes ∙ ap (λ m. take m input) (s .full k e)
 
-  -- an answer of what was read: in a space of 65,537 bytes there is enough of any input
-  pub of-read : {after : List ℕ} {n : ℕ} → 65537 ≤ length space → isRead (g .last) ≡ true → AtFront (outputOf (take (g .n) space)) room n after → Answered g space room n after
-  of-read enough ok p = record {
-    said = rw ok p;
-    whole = λ _ s input d. p .front ∙ (ap outputOf (as-much input ok s d) ∙ first-bytes (length space) enough input);
-  }
+  -- what is said of what was read
+  pub of-read : {after : List ℕ} {n : ℕ} → isRead (g .last) ≡ true → AtFront (outputOf (take (g .n) space)) room n after → AtFront (saidOf g space) room n after
+  of-read ok p = rw ok p
 
-  -- and none, where a read failed
-  pub of-failed : isRead (g .last) ≡ false → Answered g space room 0 room
-  of-failed failed = record { said = rw failed (record { length-is = refl; front = refl; rest = refl }); whole = λ ok. absurd (false≢true (sym failed ∙ ok)) }
+  -- and nothing, where a read failed
+  pub of-failed : isRead (g .last) ≡ false → AtFront (saidOf g space) room 0 room
+  of-failed failed = rw failed (record { length-is = refl; front = refl; rest = refl })
+
+  -- in a space of 65,537 bytes there is enough of any input
+  pub of-input : {after : List ℕ} {n : ℕ} → 65537 ≤ length space → Stopped (length space) g → AtFront (saidOf g space) room n after → isRead (g .last) ≡ true → (input : List ℕ) → Delivered g space input → take n after ≡ outputOf input
+  of-input enough s p ok input d =
+      p .front ∙ (rw ok refl ∙ (ap outputOf (as-much input ok s d) ∙ first-bytes (length space) enough input))

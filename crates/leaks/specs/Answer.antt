@@ -10,6 +10,7 @@ use Rattle.listing.specs.Listing.{outputOf}
 use Rattle.reading.specs.declared.Got.{Got}
 use Rattle.reading.specs.declared.Piece.{Piece}
 use Rattle.reading.specs.declared.Piece.the-variants.{Ended}
+use Rattle.leaks.specs.declared.Reply.{Reply}
 use Rattle.reading.specs.Reading.{pieceOf, isRead, Stopped}
 
 -- of a read of at most so many bytes: some answer that read may give, as it is to be taken
@@ -35,10 +36,11 @@ pub record Delivered (g : Got) (space input : List ℕ) : Type 0 where
   pub bytes : take (g .n) space ≡ take (g .n) input
   pub ended : g .last ≡ Ended → g .n ≡ length input
 
--- what is promised of the answer: what is said stands at the front of the room; and where the reading stopped as promised and the bytes were delivered, it is what is to be said of the whole input
-pub record Answered (g : Got) (space room : List ℕ) (n : ℕ) (after : List ℕ) : Type 0 where
-  pub said : AtFront (saidOf g space) room n after
-  pub whole : isRead (g .last) ≡ true → Stopped (length space) g → (input : List ℕ) → Delivered g space input → take n after ≡ outputOf input
+-- what is promised of the reply to an input: the reading stopped as it should; what is said of the bytes in the space stands at the front of the room; and if they were delivered, that is what is to be said of the whole input
+pub record Replied (space room : List ℕ) (r : Reply) (after : List ℕ) : Type 0 where
+  pub stopped : Stopped (length space) (r .got)
+  pub said : AtFront (saidOf (r .got) space) room (r .n) after
+  pub whole : isRead (r .got .last) ≡ true → (input : List ℕ) → Delivered (r .got) space input → take (r .n) after ≡ outputOf input
 
 -- what is to be said of an input turns on its first 65,537 bytes
 abbrev pub FirstBytes : Type 0

@@ -9,13 +9,19 @@ ghost use mathlib.Core.Path.{_≡_};
 ghost use lib.ListN.{length, take};
 ghost use Rattle.listing.specs.Listing.{outputOf};
 ghost use Rattle.reading.specs.Reading.{Stopped};
-ghost use Rattle.leaks.specs.Answer.{Took, AtFront, Answered};
+ghost use Rattle.leaks.specs.Answer.{Took, AtFront, saidOf, Replied};
 
 // One byte more than a file may have.
 const SPACE: usize = 65537;
 
 // No list has more bytes.
 const ROOM: usize = 65536;
+
+// What was read of the input, and how long the text is that is to be said of it.
+struct Reply {
+    got: Got,
+    n: usize,
+}
 
 fn read_some(fd: i32, part: &mut [u8]) -> Piece
     ensures { λ r. ⌜ Took (length (now (part .exit))) r ⌝ }
@@ -49,13 +55,22 @@ fn output(file: &[u8], room: &mut [u8; ROOM]) -> usize
 
 // What is to be said of the input, where so much of it was read into the space: nothing, where a read failed.
 fn answer(g: Got, space: &[u8; SPACE], room: &mut [u8; ROOM]) -> usize
-    ensures { λ r. ⌜ Answered g (now (space .entry)) (now (room .entry)) r (now (room .exit)) ⌝ }
+    ensures { λ r. ⌜ AtFront (saidOf g (now (space .entry))) (now (room .entry)) r (now (room .exit)) ⌝ }
 {
     let n = g.n;
     if reading::is_read(g) {
         return output(reading::front(space, n), room);
     }
     0
+}
+
+// Reads the input into the space, and puts what is to be said of it at the front of the room.
+fn reply_to(fd: i32, space: &mut [u8; SPACE], room: &mut [u8; ROOM]) -> Reply
+    ensures { λ r. ⌜ Replied (now (space .exit)) (now (room .entry)) r (now (room .exit)) ⌝ }
+{
+    let got = read_all(fd, space);
+    let n = answer(got, space, room);
+    Reply { got, n }
 }
 
 // The first n bytes of the room.
@@ -68,12 +83,13 @@ fn text(room: &[u8; ROOM], n: usize) -> &[u8]
 fn main() {
     let mut space = [0u8; SPACE];
     let mut room = [0u8; ROOM];
-    let g = read_all(STDIN_FILENO, &mut space);
-    let n = answer(g, &space, &mut room);
+    let r = reply_to(STDIN_FILENO, &mut space, &mut room);
+    let n = r.n;
+    let got = r.got;
     if !io::write_all(STDOUT_FILENO, text(&room, n)) {
         io::write_all(STDERR_FILENO, b"leaks: writing failed\n");
     }
-    if !reading::is_read(g) {
+    if !reading::is_read(got) {
         io::write_all(STDERR_FILENO, b"leaks: reading failed\n");
     }
 }

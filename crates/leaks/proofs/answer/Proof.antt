@@ -1,5 +1,4 @@
--- The answer of the bytes that were read, or none.
-use native.Mathlib.Omega.{arith}
+-- What is to be said of the bytes that were read, or nothing.
 use mathlib.Core.Path.{sym, subst, _∙_}
 use borrow.Author.Needs.{needs}
 use denote.Ref.{now}
@@ -23,7 +22,6 @@ returns c =
     let is-read = c .before .before .before .before .before .is-read in
     let g = c .before .before .before .before .before .before .args in
     of-read (g .g) (now (g .space)) (now (g .room))
-    (omega arith)
     (sym (is-read .ensures) ∙ c .before .before .before .before .if1 .taken)
     (subst (λ f. AtFront (outputOf f) (now (g .room)) (c .output .result) (c .output .last .1 .0)) (c .before .before .front .ensures) (c .output .ensures))
 
