@@ -14,7 +14,7 @@ use Rattle.order.proofs.Every.{seven, eight}
 use Rattle.walk.specs.declared.Ring.{Ring}
 use Rattle.ring.specs.Flags.{verticesIn, cornersIn, neighbours}
 use Rattle.ring.specs.Ring.{ring}
-use Rattle.walk.specs.Code.{codeOf, codesOf, befores, ringOf, edgeOf, insideOf, neighboursOf, walkOf, begun, alongEdge, closing, entering, leaving, cornered, pushed, lineAmong, isOnLine}
+use Rattle.walk.specs.Code.{codeOf, codesOf, befores, ringOf, edgeOf, edgeAt, insideOf, neighboursOf, walkOf, begun, alongEdge, closing, entering, leaving, cornered, pushed, lineAmong, isOnLine}
 use Rattle.ring.proofs.Walks.{allWalks, walksFrom, inAllOrders, every-walk}
 
 sameBools : List Bool → List Bool → Bool
@@ -52,7 +52,7 @@ module _ (ss : List (List Bool)) (os : List (List ℕ)) where
   B5 = sameBools (r .neighbour) (neighbours (signsAt ss) (orderAt os))
 
   unfoldable agrees : Bool
-  unfolding sameBools sameList ringOf edgeOf insideOf neighboursOf walkOf begun alongEdge closing entering leaving cornered pushed lineAmong isOnLine befores ring verticesIn cornersIn neighbours
+  unfolding sameBools sameList ringOf edgeAt edgeOf insideOf neighboursOf walkOf begun alongEdge closing entering leaving cornered pushed lineAmong isOnLine befores ring verticesIn cornersIn neighbours
   agrees = B1 && (B2 && (B3 && (B4 && B5)))
 
   from-test : T agrees → IsRing ss os r

@@ -5,7 +5,8 @@ ghost use mathlib.Core.Bool.{cond};
 ghost use Prim.Native.Nat.{_<_};
 ghost use lib.Ieee.{le};
 ghost use Rattle.floats.specs.Finite.{nought};
-ghost use Rattle.edges.specs.Code.{tested, seenFirst, inOrder, aroundBy, threeBy, twoBy, orderBy};
+ghost use Rattle.lines.specs.Lines.{lowerEnd, higherEnd};
+ghost use Rattle.edges.specs.Code.{tested, seenFirst, inOrder, aroundBy, threeBy, twoBy, orderBy, orderOn};
 
 // By V's corners: whether the corner's lower line is met before its upper one, false where the edge does not cross both. And whether all
 // pair tests that were computed are finite.
@@ -147,7 +148,7 @@ fn two_lines(p: lines::Params, q: lines::Params, s: [bool; 3], k: usize, c: usiz
 }
 
 // The order along an edge, seen from its lower vertex.
-pub fn order_of(p: lines::Params, q: lines::Params, s: [bool; 3], t: [bool; 3]) -> Order
+fn order_of(p: lines::Params, q: lines::Params, s: [bool; 3], t: [bool; 3]) -> Order
     ensures { λ r. ⌜ r ≡ orderBy (tested p q s) s t ⌝ }
 {
     let x = s[0] != t[0];
@@ -181,4 +182,35 @@ pub fn order_of(p: lines::Params, q: lines::Params, s: [bool; 3], t: [bool; 3]) 
         before: [false; 3],
         fine: true,
     }
+}
+
+// Of the two ends of U's edge e the one with the lower number; 0 where there is no such edge.
+pub fn lower_end(e: usize) -> usize
+    ensures { λ r. ⌜ (r ≡ lowerEnd e) × (r < 3) ⌝ }
+{
+    let i = lines::end_of(e, 0);
+    let j = lines::end_of(e, 1);
+    if i < j { i } else { j }
+}
+
+// The one with the higher number; 0 where there is no such edge.
+pub fn higher_end(e: usize) -> usize
+    ensures { λ r. ⌜ (r ≡ higherEnd e) × (r < 3) ⌝ }
+{
+    let i = lines::end_of(e, 0);
+    let j = lines::end_of(e, 1);
+    if i < j { j } else { i }
+}
+
+// The order along U's edge e, by the parameters and the signs of U's vertices, seen from its lower end.
+pub fn order_on(params: [lines::Params; 3], signs: [[bool; 3]; 3], e: usize) -> Order
+    ensures { λ r. ⌜ r ≡ orderOn params signs e ⌝ }
+{
+    let i = lower_end(e);
+    let j = higher_end(e);
+    let p = params[i];
+    let q = params[j];
+    let s = signs[i];
+    let t = signs[j];
+    order_of(p, q, s, t)
 }

@@ -1,7 +1,7 @@
 -- The steps of the code from the values to the answer. That they give the answer of the rules is the entry point's promise. Definitions only.
-use mathlib.Core.Bool.{Bool, true, not, _&&_, cond}
+use mathlib.Core.Bool.{Bool, true, false, not, _&&_, cond}
 use mathlib.Core.List.{List, [], _∷_, _++_}
-use Prim.Native.Nat.{ℕ, zero, suc, _+_, _-_, _*_}
+use Prim.Native.Nat.{ℕ, zero, suc, _+_, _-_, _*_, _/_, _%_}
 use lib.ListN.{getD}
 use lib.Ieee.{Float, nan, binary64, add, mul, neg, lt}
 use Rattle.floats.specs.Finite.{nought}
@@ -12,6 +12,7 @@ use Rattle.lines.specs.Lines.{signsAt, start, finish}
 use Rattle.lines.specs.declared.Params.{Params}
 use Rattle.lines.specs.Parameters.{parameter, carried}
 use Rattle.ring.specs.Places.{Place, vertex, corner, crossing}
+use Rattle.edges.specs.Code.{paramsAt}
 use Rattle.walk.specs.declared.Corner.{Corner}
 use Rattle.walk.specs.Code.{coded, placeOf}
 use Rattle.crossings.specs.declared.Spot.{Spot}
@@ -32,20 +33,35 @@ frontOf l = firstOf (coordinates ∷ wayToD ∷ dZero ∷ wayToE ∷ eZero ∷ w
 abbrev pub copied : Position → Spot
 copied p = record { x = p .x; y = p .y; fine = true }
 
-abbrev pub paramsAt : List Params → ℕ → Params
-paramsAt ps i = getD ps i (record { x = nan; y = nan; w = nan })
-
 unfoldable pub crossSpot : List Float → List Params → ℕ → ℕ → ℕ → Spot
 crossSpot l ps a i j = spotOn (parameter (carried (paramsAt ps i)) a .value) (parameter (carried (paramsAt ps j)) a .value) (positionAt l i) (positionAt l j)
 
+-- of a place: a crossing's position is reckoned from the start of its edge, if that is plus on the crossing's line, else from the finish
+unfoldable pub spotBy : List Float → List Params → Bool → Place → Spot
+spotBy l ps plus (vertex i) = copied (positionAt l i)
+spotBy l ps plus (corner k) = copied (positionAt l (3 + k))
+spotBy l ps plus (crossing e a) = cond plus (crossSpot l ps a (start e) (finish e)) (crossSpot l ps a (finish e) (start e))
+
+-- the sign of that start on that line; of a place that is no crossing nothing hangs on it
+abbrev pub plusAt : List (List Bool) → Place → Bool
+plusAt ss (vertex i) = false
+plusAt ss (corner k) = false
+plusAt ss (crossing e a) = signsAt ss (start e) a
+
 unfoldable pub spotOf : List Float → List Params → List (List Bool) → Place → Spot
-spotOf l ps ss (vertex i) = copied (positionAt l i)
-spotOf l ps ss (corner k) = copied (positionAt l (3 + k))
-spotOf l ps ss (crossing e a) = cond (signsAt ss (start e) a) (crossSpot l ps a (start e) (finish e)) (crossSpot l ps a (finish e) (start e))
+unfolding spotBy
+spotOf l ps ss p = spotBy l ps (plusAt ss p) p
 
 -- the spot of the ring's place i
 abbrev pub spotAt : List Float → List Params → List (List Bool) → List Corner → ℕ → Spot
 spotAt l ps ss places i = spotOf l ps ss (placeOf (getD places i (coded 0) .code))
+
+-- the edge and the line of the crossing with a number, and 0 of a number below 6
+abbrev pub edgeIn : ℕ → ℕ
+edgeIn code = (code - 6) / 3
+
+abbrev pub lineIn : ℕ → ℕ
+lineIn code = (code - 6) % 3
 
 -- the values of the first n spots, and whether all of them are fine
 unfoldable pub spotsTo : List Float → List Params → List (List Bool) → List Corner → ℕ → List Float

@@ -94,17 +94,16 @@ fn ordered(
     requires { ⌜ (p ≡ paramsOf (now values) 0) × (q ≡ paramsOf (now values) 1) × (r ≡ paramsOf (now values) 2) ⌝ }
     ensures { λ r. ⌜ Promise (now (values .entry)) (now (room .entry)) r (now (room .exit)) ⌝ }
 {
-    let s = lines::signs_of(p);
-    let t = lines::signs_of(q);
-    let u = lines::signs_of(r);
-    let a = edges::order_of(p, q, s, t);
-    let b = edges::order_of(q, r, t, u);
-    let c = edges::order_of(p, r, s, u);
+    let params = [p, q, r];
+    let signs = [lines::signs_of(p), lines::signs_of(q), lines::signs_of(r)];
+    let a = edges::order_on(params, signs, 0);
+    let b = edges::order_on(params, signs, 1);
+    let c = edges::order_on(params, signs, 2);
     if a.fine & (b.fine & c.fine) {
         let x = a.before;
         let y = b.before;
         let z = c.before;
-        return placed(values, room, [p, q, r], [s, t, u], [x, y, z]);
+        return placed(values, room, params, signs, [x, y, z]);
     }
     refused(4)
 }

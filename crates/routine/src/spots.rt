@@ -3,7 +3,7 @@ ghost use mathlib.Core.Path.{_≡_};
 ghost use Prim.Native.Nat.{_*_, _<_, _≤_};
 ghost use lib.ListN.{length, take};
 ghost use Rattle.walk.specs.Code.{placeOf};
-ghost use Rattle.routine.specs.Code.{positionAt, crossSpot, spotOf, spotsTo, fineTo, areaBy};
+ghost use Rattle.routine.specs.Code.{positionAt, crossSpot, spotBy, edgeIn, lineIn, spotsTo, fineTo, areaBy};
 
 // The positions of a ring's corners, and whether all of them are fine.
 pub(crate) struct Corners {
@@ -43,15 +43,37 @@ fn cross_spot(
     )
 }
 
-// The position of a place of the ring, which is decoded here.
+// The edge of a crossing, by its place's number; 0 of any other place.
+fn edge_in(place: walk::Corner) -> usize
+    ensures { λ r. ⌜ r ≡ edgeIn (place .code) ⌝ }
+{
+    let code = place.code as usize;
+    if code < 6 {
+        return 0;
+    }
+    (code - 6) / 3
+}
+
+// Its line, likewise.
+fn line_in(place: walk::Corner) -> usize
+    ensures { λ r. ⌜ (r ≡ lineIn (place .code)) × (r < 3) ⌝ }
+{
+    let code = place.code as usize;
+    if code < 6 {
+        return 0;
+    }
+    (code - 6) % 3
+}
+
+// The position of a place of the ring; of a crossing, `plus` is the sign on its line where its edge starts.
 fn spot_of(
     values: &[f64],
     params: [lines::Params; 3],
-    signs: &[[bool; 3]; 3],
+    plus: bool,
     place: walk::Corner,
 ) -> crossings::Spot
     requires { ⌜ length (now values) ≡ 12 ⌝ }
-    ensures { λ r. ⌜ r ≡ spotOf (now (values .entry)) params (now (signs .entry)) (placeOf (place .code)) ⌝ }
+    ensures { λ r. ⌜ r ≡ spotBy (now (values .entry)) params plus (placeOf (place .code)) ⌝ }
 {
     let code = place.code as usize;
     if code < 6 {
@@ -62,11 +84,11 @@ fn spot_of(
             fine: true,
         };
     }
-    let e = (code - 6) / 3;
-    let a = (code - 6) % 3;
+    let e = edge_in(place);
+    let a = line_in(place);
     let i = lines::end_of(e, 0);
     let j = lines::end_of(e, 1);
-    if signs[i][a] {
+    if plus {
         return cross_spot(values, params, a, i, j);
     }
     cross_spot(values, params, a, j, i)
@@ -87,7 +109,10 @@ pub(crate) fn corners_of(
     let mut fine = true;
     let mut i = 0;
     while i < n {
-        let spot = spot_of(values, params, &signs, places[i]);
+        let place = places[i];
+        let start = lines::end_of(edge_in(place), 0);
+        let a = line_in(place);
+        let spot = spot_of(values, params, signs[start][a], place);
         xy[2 * i] = spot.x;
         xy[2 * i + 1] = spot.y;
         fine = fine & spot.fine;

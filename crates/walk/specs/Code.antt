@@ -6,7 +6,7 @@ use Prim.Native.Nat.{ℕ, _+_, _-_, _*_, _/_, _%_}
 use lib.Dec.{eqb, ltb}
 use lib.ListN.{getD, set, take}
 use Rattle.floats.specs.Lists.{differ}
-use Rattle.lines.specs.Lines.{cornerOn, lowerLine, upperLine, sign, signsAt}
+use Rattle.lines.specs.Lines.{three, cornerOn, lowerLine, upperLine, start, lowerEnd, higherEnd, sign, signsAt}
 use Rattle.order.specs.Order.{orderAt}
 use Rattle.edges.specs.Code.{beforeIn}
 use Rattle.walk.specs.declared.Corner.{Corner}
@@ -21,7 +21,10 @@ codeOf (vertex i) = i
 codeOf (corner k) = 3 + k
 codeOf (crossing e a) = 6 + 3 * e + a
 
--- an edge from the signs s to the signs t, with its order by corners
+-- an edge from the signs s to the signs t, with its order by corners. x, y and w: whether it crosses the line, its ends having different signs there.
+-- xy: where it crosses x, its sign on y, which is that of the walk at that moment: of its start, or turned if y was crossed before; the five others likewise.
+-- on: which crossings lie on V's edge, being plus on both other lines.
+-- beside: of each corner of V, whether the edge crosses the corner's lower line on the plus side of its upper one; a corner is in U if of the lower line's two crossings one alone does
 unfoldable pub edgeOf : List Bool → List Bool → List Bool → Edge
 edgeOf s t o =
     let x = differ (sign s 0) (sign t 0) in
@@ -34,6 +37,10 @@ edgeOf s t o =
     let wx = differ (sign s 0) (x && sign o 2) in
     let wy = differ (sign s 1) (y && sign o 1) in
     record { on = (x && (xy && xw)) ∷ (y && (yx && yw)) ∷ (w && (wx && wy)) ∷ []; beside = (x && xy) ∷ (y && yw) ∷ (x && xw) ∷ [] }
+
+-- U's edge e, seen from its lower end
+unfoldable pub edgeAt : List (List Bool) → List (List Bool) → ℕ → Edge
+edgeAt ss os e = edgeOf (getD ss (lowerEnd e) []) (getD ss (higherEnd e) []) (getD os e [])
 
 -- ---- the walk
 abbrev pub coded : ℕ → Corner
@@ -94,34 +101,33 @@ closing w inside some =
     (cond (some && (ltb (w .left) 3 && not (eqb (w .left) (w .first)))) (cornered w inside (w .left)) w)
 
 -- ---- the whole
--- of what three edges tell of V's corners
+-- of what three edges tell of V's corners, p, q and r being their `beside`: V's corner on two lines is in U if the lower line has two crossings with different signs on the
+-- upper, which is an odd number of plus signs, as no line has one crossing or three. Each flag is set at the number that the table gives the corner on its lines
 unfoldable pub insideOf : List Bool → List Bool → List Bool → List Bool
 insideOf p q r =
     set (set (set (false ∷ false ∷ false ∷ []) (cornerOn 0 1) (differ (sign p 0) (differ (sign q 0) (sign r 0)))) (cornerOn 1 2) (differ (sign p 1) (differ (sign q 1) (sign r 1)))) (cornerOn 0 2) (differ (sign p 2) (differ (sign q 2) (sign r 2)))
 
 unfoldable pub neighboursOf : List Bool → List Bool → List Bool → List Bool → List Bool
 neighboursOf p q r k =
-    (sign p 0 || (sign q 0 || (sign r 0 || (sign k 0 || sign k 2))))
-    ∷ (sign p 1 || (sign q 1 || (sign r 1 || (sign k 0 || sign k 1))))
-    ∷ (sign p 2 || (sign q 2 || (sign r 2 || (sign k 1 || sign k 2))))
+    (sign p 0 || (sign q 0 || (sign r 0 || (sign k (cornerOn 0 1) || sign k (cornerOn 0 2)))))
+    ∷ (sign p 1 || (sign q 1 || (sign r 1 || (sign k (cornerOn 0 1) || sign k (cornerOn 1 2)))))
+    ∷ (sign p 2 || (sign q 2 || (sign r 2 || (sign k (cornerOn 0 2) || sign k (cornerOn 1 2)))))
     ∷ []
 
-unfoldable pub walkOf : List Bool → List Bool → List Bool → List Bool → List Bool → List Bool → List Bool → Walk
-walkOf s t u p q r k =
+unfoldable pub walkOf : List (List Bool) → List Bool → List Bool → List Bool → List Bool → Walk
+walkOf ss p q r k =
     let some = sign k 0 || (sign k 1 || sign k 2) in
-    closing (alongEdge (alongEdge (alongEdge begun k some 0 s p) k some 1 t q) k some 2 u r) k some
+    let from : ℕ → List Bool = λ e. getD ss (start e) [] in
+    closing (alongEdge (alongEdge (alongEdge begun k some 0 (from 0) p) k some 1 (from 1) q) k some 2 (from 2) r) k some
 
 unfoldable pub ringOf : List (List Bool) → List (List Bool) → Ring
 ringOf ss os =
-    let s = getD ss 0 [] in
-    let t = getD ss 1 [] in
-    let u = getD ss 2 [] in
-    let a = edgeOf s t (getD os 0 []) in
-    let b = edgeOf t u (getD os 1 []) in
-    let c = edgeOf s u (getD os 2 []) in
+    let a = edgeAt ss os 0 in
+    let b = edgeAt ss os 1 in
+    let c = edgeAt ss os 2 in
     let k = insideOf (a .beside) (b .beside) (c .beside) in
-    let w = walkOf s t u (a .on) (b .on) (c .on) k in
-    record { places = w .places; n = w .n; «u_in_v» = allPlus s ∷ allPlus t ∷ allPlus u ∷ []; «v_in_u» = k; neighbour = neighboursOf (a .on) (b .on) (c .on) k }
+    let w = walkOf ss (a .on) (b .on) (c .on) k in
+    record { places = w .places; n = w .n; «u_in_v» = map (λ i. allPlus (getD ss i [])) three; «v_in_u» = k; neighbour = neighboursOf (a .on) (b .on) (c .on) k }
 
 -- one of V's lines has all three vertices of U on its minus side
 abbrev pub beyondALine : List (List Bool) → Bool

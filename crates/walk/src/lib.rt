@@ -1,7 +1,7 @@
 // Flags and ring of two triangles, from the signs of U's vertices and the orders along U's edges.
 ghost use mathlib.Core.Path.{_≡_};
 ghost use Prim.Native.Nat.{_<_, _≤_};
-ghost use Rattle.walk.specs.Code.{edgeOf, begun, pushed, lineAmong, isOnLine, cornered, entering, leaving, alongEdge, closing, insideOf, neighboursOf, allPlus, walkOf, ringOf, beyondALine};
+ghost use Rattle.walk.specs.Code.{edgeOf, edgeAt, begun, pushed, lineAmong, isOnLine, cornered, entering, leaving, alongEdge, closing, insideOf, neighboursOf, allPlus, walkOf, ringOf, beyondALine};
 
 // A place of the ring, by number: U's vertices are 0, 1, 2, V's corners 3, 4, 5, and from 6 on each edge of U has three crossings, by line.
 pub struct Corner {
@@ -54,6 +54,19 @@ fn edge_of(s: [bool; 3], t: [bool; 3], before: [bool; 3]) -> Edge
         ],
         beside: [x & x_on_y, y & y_on_w, x & x_on_w],
     }
+}
+
+// What U's edge e tells, seen from its lower end, as its order is.
+fn edge_at(signs: [[bool; 3]; 3], before: [[bool; 3]; 3], e: usize) -> Edge
+    requires { ⌜ e < 3 ⌝ }
+    ensures { λ r. ⌜ r ≡ edgeAt signs before e ⌝ }
+{
+    let i = edges::lower_end(e);
+    let j = edges::higher_end(e);
+    let s = signs[i];
+    let t = signs[j];
+    let order = before[e];
+    edge_of(s, t, order)
 }
 
 // Nothing met yet.
@@ -211,28 +224,35 @@ fn inside_of(p: [bool; 3], q: [bool; 3], r: [bool; 3]) -> [bool; 3]
     inside
 }
 
-// V's edges that have a crossing on them, or at one end a corner that is in U.
+// V's edges that have a crossing on them, or at one end a corner that is in U: the ends of an edge are the corners that its line has with the two others.
 fn neighbours_of(p: [bool; 3], q: [bool; 3], r: [bool; 3], inside: [bool; 3]) -> [bool; 3]
     ensures { λ k. ⌜ k ≡ neighboursOf p q r inside ⌝ }
 {
-    let x = p[0] | (q[0] | (r[0] | (inside[0] | inside[2])));
-    let y = p[1] | (q[1] | (r[1] | (inside[0] | inside[1])));
-    let w = p[2] | (q[2] | (r[2] | (inside[1] | inside[2])));
+    let xy = lines::corner_on(0, 1);
+    let yw = lines::corner_on(1, 2);
+    let xw = lines::corner_on(0, 2);
+    let x = p[0] | (q[0] | (r[0] | (inside[xy] | inside[xw])));
+    let y = p[1] | (q[1] | (r[1] | (inside[xy] | inside[yw])));
+    let w = p[2] | (q[2] | (r[2] | (inside[xw] | inside[yw])));
     [x, y, w]
 }
 
-// The walk along the three edges, whose starts have the signs s, t and u, and its end.
+// The walk along the three edges, each from its start, and its end.
 fn walk_of(
-    s: [bool; 3],
-    t: [bool; 3],
-    u: [bool; 3],
+    signs: [[bool; 3]; 3],
     p: [bool; 3],
     q: [bool; 3],
     r: [bool; 3],
     inside: [bool; 3],
 ) -> Walk
-    ensures { λ w. ⌜ w ≡ walkOf s t u p q r inside ⌝ }
+    ensures { λ w. ⌜ w ≡ walkOf signs p q r inside ⌝ }
 {
+    let i = lines::end_of(0, 0);
+    let j = lines::end_of(1, 0);
+    let k = lines::end_of(2, 0);
+    let s = signs[i];
+    let t = signs[j];
+    let u = signs[k];
     let some = inside[0] | (inside[1] | inside[2]);
     let w0 = along_edge(begin(), inside, some, 0, s, p);
     let w1 = along_edge(w0, inside, some, 1, t, q);
@@ -247,9 +267,9 @@ pub fn ring_of(signs: [[bool; 3]; 3], before: [[bool; 3]; 3]) -> Ring
     let s = signs[0];
     let t = signs[1];
     let u = signs[2];
-    let a = edge_of(s, t, before[0]);
-    let b = edge_of(t, u, before[1]);
-    let c = edge_of(s, u, before[2]);
+    let a = edge_at(signs, before, 0);
+    let b = edge_at(signs, before, 1);
+    let c = edge_at(signs, before, 2);
     let p = a.on;
     let q = b.on;
     let r = c.on;
@@ -257,7 +277,7 @@ pub fn ring_of(signs: [[bool; 3]; 3], before: [[bool; 3]; 3]) -> Ring
     let q_beside = b.beside;
     let r_beside = c.beside;
     let inside = inside_of(p_beside, q_beside, r_beside);
-    let w = walk_of(s, t, u, p, q, r, inside);
+    let w = walk_of(signs, p, q, r, inside);
     let places = w.places;
     let n = w.n;
     Ring {

@@ -14,14 +14,14 @@ signs-of-requires-2 c κs = search needs
 signs-of-requires-3 : tie.Need-signs-of-requires-3
 signs-of-requires-3 c κs = search needs
 
-order-of-requires : tie.Need-order-of-requires
-order-of-requires c κs = search needs
+order-on-requires : tie.Need-order-on-requires
+order-on-requires c κs = search needs
 
-order-of-requires-2 : tie.Need-order-of-requires-2
-order-of-requires-2 c κs = search needs
+order-on-requires-2 : tie.Need-order-on-requires-2
+order-on-requires-2 c κs = search needs
 
-order-of-requires-3 : tie.Need-order-of-requires-3
-order-of-requires-3 c κs = search needs
+order-on-requires-3 : tie.Need-order-on-requires-3
+order-on-requires-3 c κs = search needs
 
 placed-requires : tie.Need-placed-requires
 placed-requires c κs =
@@ -42,8 +42,8 @@ placed-requires c κs =
     let b15 = b14 .before in
     let b16 = b15 .before in
     let g = b16 .args in (
-      tests-known (now (g .values)) (now (g .room)) (g .p) (g .q) (g .r) _ _ _ (b16 .pre .0) (b16 .pre .1) (b13 .signs-of .ensures) (b12 .signs-of2 .ensures) (b11 .signs-of3 .ensures) _ _ _ (b10 .order-of .ensures) (b9 .order-of2 .ensures) (b8 .order-of3 .ensures) (b4 .if1 .taken),
-      all-named (now (g .values)) (now (g .room)) (g .p) (g .q) (g .r) _ _ _ (b16 .pre .0) (b16 .pre .1) (b13 .signs-of .ensures) (b12 .signs-of2 .ensures) (b11 .signs-of3 .ensures) _ _ _ (b10 .order-of .ensures) (b9 .order-of2 .ensures) (b8 .order-of3 .ensures),
+      tests-known (now (g .values)) (now (g .room)) (g .p) (g .q) (g .r) _ _ _ (b16 .pre .0) (b16 .pre .1) (b13 .signs-of .ensures) (b12 .signs-of2 .ensures) (b11 .signs-of3 .ensures) _ _ _ (b10 .order-on .ensures) (b9 .order-on2 .ensures) (b8 .order-on3 .ensures) (b4 .if1 .taken),
+      all-named (now (g .values)) (now (g .room)) (g .p) (g .q) (g .r) _ _ _ (b16 .pre .0) (b16 .pre .1) (b13 .signs-of .ensures) (b12 .signs-of2 .ensures) (b11 .signs-of3 .ensures) _ _ _ (b10 .order-on .ensures) (b9 .order-on2 .ensures) (b8 .order-on3 .ensures),
     )
 
 same-length : tie.Need-same-length
@@ -71,7 +71,7 @@ returns-2 c =
     let b12 = b11 .before in
     let b13 = b12 .before in
     let g = b13 .args in
-    tests-refusal-kept (now (g .values)) (now (g .room)) (g .p) (g .q) (g .r) _ _ _ (b13 .pre .0) (b13 .pre .1) (b10 .signs-of .ensures) (b9 .signs-of2 .ensures) (b8 .signs-of3 .ensures) _ _ _ (b7 .order-of .ensures) (b6 .order-of2 .ensures) (b5 .order-of3 .ensures) (b1 .if1 .left) (c .refused .ensures)
+    tests-refusal-kept (now (g .values)) (now (g .room)) (g .p) (g .q) (g .r) _ _ _ (b13 .pre .0) (b13 .pre .1) (b10 .signs-of .ensures) (b9 .signs-of2 .ensures) (b8 .signs-of3 .ensures) _ _ _ (b7 .order-on .ensures) (b6 .order-on2 .ensures) (b5 .order-on3 .ensures) (b1 .if1 .left) (c .refused .ensures)
 
 pub ordered-spec : {M : Type 1} → statement M
 ordered-spec =
@@ -80,9 +80,9 @@ ordered-spec =
     signs-of-requires
     signs-of-requires-2
     signs-of-requires-3
-    order-of-requires
-    order-of-requires-2
-    order-of-requires-3
+    order-on-requires
+    order-on-requires-2
+    order-on-requires-3
     placed-requires
     same-length
     returns

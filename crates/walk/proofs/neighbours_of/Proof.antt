@@ -5,6 +5,15 @@ use borrow.Author.Needs.{needs}
 use Rattle.walk.proofs.neighbours_of.Statement.{statement}
 use Rattle.walk.proofs.neighbours_of.Tie as tie
 
+corner-on-requires : tie.Need-corner-on-requires
+corner-on-requires c κs = search needs
+
+corner-on-requires-2 : tie.Need-corner-on-requires-2
+corner-on-requires-2 c κs = search needs
+
+corner-on-requires-3 : tie.Need-corner-on-requires-3
+corner-on-requires-3 c κs = search needs
+
 array-read-x : tie.Need-array-read-x
 array-read-x c = search needs
 
@@ -52,12 +61,15 @@ array-read-w-5 c = search needs
 
 returns : tie.Need-returns
 unfolding neighboursOf
-returns c = refl
+returns c = rw (c .corner-on3 .ensures .0, c .before .corner-on2 .ensures .0, c .before .before .corner-on .ensures .0) refl
 
 pub neighbours-of-spec : {M : Type 1} → statement M
 neighbours-of-spec =
     tie.close
     (tie.spec
+    corner-on-requires
+    corner-on-requires-2
+    corner-on-requires-3
     array-read-x
     array-read-x-2
     array-read-x-3

@@ -5,6 +5,7 @@ use native.Mathlib.Nat.{le-antisymm}
 use native.Mathlib.Omega.{arith}
 use lib.ListN.{length, take}
 use Rattle.routine.specs.Code.{spotsTo, fineTo}
+use Rattle.routine.proofs.Decoded.{looked-up}
 use Rattle.routine.proofs.Turns.{one-laid, one-fine}
 use borrow.Author.Needs.{needs}
 use Rattle.routine.proofs.spots.corners_of.Statement.{statement}
@@ -20,8 +21,26 @@ loop-holds : tie.Need-loop-holds Inv-loop μ-loop
 unfolding spotsTo fineTo
 loop-holds c = (search needs, search needs, refl, refl)
 
-array-copy-out-spot-of : tie.Need-array-copy-out-spot-of Inv-loop μ-loop
-array-copy-out-spot-of c = search needs
+array-copy-out-place : tie.Need-array-copy-out-place Inv-loop μ-loop
+array-copy-out-place c = search needs
+
+edge-in-requires : tie.Need-edge-in-requires Inv-loop μ-loop
+edge-in-requires c κs = search needs
+
+end-of-requires : tie.Need-end-of-requires Inv-loop μ-loop
+end-of-requires c κs = search needs
+
+line-in-requires : tie.Need-line-in-requires Inv-loop μ-loop
+line-in-requires c κs = search needs
+
+mul-spot-of : tie.Need-mul-spot-of Inv-loop μ-loop
+mul-spot-of c = search needs
+
+index-1-spot-of : tie.Need-index-1-spot-of Inv-loop μ-loop
+index-1-spot-of c = search needs
+
+index-2-spot-of : tie.Need-index-2-spot-of Inv-loop μ-loop
+index-2-spot-of c = search needs
 
 spot-of-requires : tie.Need-spot-of-requires Inv-loop μ-loop
 spot-of-requires c κs = search needs
@@ -56,14 +75,17 @@ loop-less c = search needs
 loop-again : tie.Need-loop-again Inv-loop μ-loop
 loop-again c =
     let b1 = c .before in
-    let b2 = b1 .before in
-    let b3 = b2 .before in
+    let b3 = b1 .before .before in
     let b4 = b3 .before in
     let b5 = b4 .before in
-    let g = b5 .before .before .args in
-    let inv = b5 .loop .inv in
-    let h = b4 .loop-test .taken in
-    (search needs, search needs, one-laid _ (g .params) (g .t3) (g .t4) _ _ (b1 .spot-of .ensures) _ (omega (arith, h, inv .1, b5 .before .before .pre .1)) (inv .2), one-fine _ (g .params) (g .t3) (g .t4) _ _ (b1 .spot-of .ensures) (inv .3))
+    let b7 = b5 .before .before in
+    let b8 = b7 .before in
+    let b10 = b8 .before .before in
+    let g = b10 .args in
+    let inv = b8 .loop .inv in
+    let h = b7 .loop-test .taken in
+    let spot = looked-up _ (g .params) (g .t3) _ _ _ _ (b5 .edge-in .ensures) (b3 .line-in .ensures .0) (b4 .end-of .ensures .0) (b1 .spot-of .ensures) in
+    (search needs, search needs, one-laid _ (g .params) (g .t3) (g .t4) _ _ spot _ (omega (arith, h, inv .1, b10 .pre .1)) (inv .2), one-fine _ (g .params) (g .t3) (g .t4) _ _ spot (inv .3))
 
 returns : tie.Need-returns Inv-loop μ-loop
 returns c =
@@ -79,7 +101,13 @@ corners-of-spec =
     Inv-loop
     μ-loop
     loop-holds
-    array-copy-out-spot-of
+    array-copy-out-place
+    edge-in-requires
+    end-of-requires
+    line-in-requires
+    mul-spot-of
+    index-1-spot-of
+    index-2-spot-of
     spot-of-requires
     mul-xy
     mul-xy-2
