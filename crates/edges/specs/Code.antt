@@ -85,6 +85,10 @@ orderOn ps ss e =
     let s = getD ss (lowerEnd e) [] in
     orderBy (tested (paramsAt ps (lowerEnd e)) (paramsAt ps (higherEnd e)) s) s (getD ss (higherEnd e) [])
 
+-- along all three
+abbrev pub ordersOn : List Params → List (List Bool) → List Order
+ordersOn ps ss = orderOn ps ss 0 ∷ orderOn ps ss 1 ∷ orderOn ps ss 2 ∷ []
+
 -- ---- the same, read off an order of the rules
 -- a stands before b in the order, and both stand there
 unfoldable pub standsBefore : ℕ → ℕ → List ℕ → Bool

@@ -1,7 +1,13 @@
--- An answer that keeps the promise, in a room of noughts, gives the definition's decision. Assumes nothing.
-use mathlib.Core.Path.{_≡_, refl, ap, _∙_}
+-- An answer that keeps the promise, in a room of noughts, gives the definition's decision; so do two shapes that were made ready. Assumes nothing.
+use mathlib.Core.Path.{_≡_, refl, sym, ap, _∙_}
+use mathlib.Core.Bool.{Bool, true, false, cond}
 use mathlib.Core.List.{List}
+use native.Mathlib.Omega.{arith}
 use lib.Ieee.{Float}
+use Rattle.floats.specs.declared.Position.{Position}
+use Rattle.floats.proofs.Lists.{taken, left}
+use Rattle.lines.specs.declared.Params.{Params}
+use Rattle.lines.specs.Parameters.{paramsBy}
 use Rattle.triangles.specs.declared.Answer.{Answer}
 use Rattle.triangles.specs.declared.Decision.{Decision}
 use Rattle.triangles.specs.declared.Decision.the-variants.{Apart}
@@ -9,12 +15,55 @@ use Rattle.triangles.specs.Answers.{refusal}
 use Rattle.triangles.specs.Promise.{Promise}
 use Rattle.triangles.specs.Decision.{enough, decided, decisionOf, Decided}
 use Rattle.triangles.proofs.Decided.{keeps}
+use Rattle.front.specs.Front.{beyondBy}
+use Rattle.shapes.specs.declared.Shape.{Shape}
+use Rattle.shapes.specs.Shapes.{Made, first, second, third, sideA, sideB, twelve}
+use Rattle.routine.specs.Code.{Leaves, settledBy, decisionBy, DecidedOfMade}
+use Rattle.routine.proofs.Entry.{beyond-kept}
+use Rattle.routine.proofs.Kept.{settled-keeps}
+use Rattle.routine.proofs.Shapes.{shapes-give}
 
 pub decision-is : (l : List Float) {a : Answer} {after : List Float} {r : Decision} → Promise l enough a after → r ≡ decided a → Decided l r
 unfolding decisionOf
 decision-is l h e = keeps l (e ∙ ap decided (h .result-is))
 
 -- number 0 and no corners
-pub apart-is : (l : List Float) {after : List Float} → Promise l enough (refusal 0) after → Decided l Apart
+apart-is : (l : List Float) {after : List Float} → Promise l enough (refusal 0) after → Decided l Apart
 unfolding decided
 apart-is l h = decision-is l h refl
+
+-- ---- of two shapes, as the code comes to it
+module _ (u v : Shape) where
+  abbrev by : Position → Params
+  by = paramsBy (v .cross) (first v) (sideA v) (sideB v)
+
+  abbrev isBeyond : Bool
+  isBeyond = beyondBy (v .cross) (u .cross) (by (first u)) (by (second u)) (by (third u))
+
+  abbrev rest : Decision
+  rest = decided (settledBy (twelve u v) enough (v .cross) (u .cross) (by (first u)) (by (second u)) (by (third u)) .answer)
+
+  module _ {p q r : Params} (hp : p ≡ by (first u)) (hq : q ≡ by (second u)) (hr : r ≡ by (third u)) {b : Bool} (hb : b ≡ beyondBy (v .cross) (u .cross) p q r) where
+    beyond-is : isBeyond ≡ b
+    beyond-is = sym (hb ∙ rw (hp, hq, hr) refl)
+
+    pub decides-apart : b ≡ true → Apart ≡ decisionBy u v
+    unfolding decisionBy
+    decides-apart h = taken rest (beyond-is ∙ h) refl
+
+    pub decides-by : {a : Answer} {after : List Float} {result : Decision} → b ≡ false → Leaves (settledBy (twelve u v) enough (v .cross) (u .cross) p q r) a after → result ≡ decided a → result ≡ decisionBy u v
+    unfolding decisionBy
+    decides-by h l e = left Apart (beyond-is ∙ h) (e ∙ (ap decided (l .result-is) ∙ rw (hp, hq, hr) refl))
+
+  -- ---- and of two that were made ready
+  module _ (made : Made u × Made v) where
+    made-decided : Decided (twelve u v) (decisionBy u v)
+    unfolding decisionBy
+    made-decided = go isBeyond refl
+      where
+        go : (b : Bool) → isBeyond ≡ b → Decided (twelve u v) (cond b Apart rest)
+        go true h = apart-is (twelve u v) (beyond-kept (twelve u v) _ _ _ _ _ refl (shapes-give u v made refl refl refl) enough (omega arith) refl h)
+        go false h = decision-is (twelve u v) (settled-keeps (twelve u v) enough _ _ _ _ _ refl (omega arith) (shapes-give u v made refl refl refl)) refl
+
+pub decided-of-made : DecidedOfMade
+decided-of-made = made-decided

@@ -7,31 +7,15 @@ use Rattle.lines.specs.Parameters.{parametersBy, valuesOf, paramsBy}
 use Rattle.lines.proofs.Sides.{by-sides}
 use Rattle.triangles.specs.Pair.{dOfV, eOfU, paramsOf}
 use Rattle.shapes.specs.declared.Shape.{Shape}
-use Rattle.shapes.specs.Shapes.{Made, twelve}
+use Rattle.shapes.specs.Shapes.{Made, first, second, third, sideA, sideB, twelve}
 use Rattle.routine.proofs.Entry.{all-given}
-
--- a shape's vertices and sides
-abbrev first : Shape → Position
-first s = record { x = s .x0; y = s .y0 }
-
-abbrev second : Shape → Position
-second s = record { x = s .x1; y = s .y1 }
-
-abbrev third : Shape → Position
-third s = record { x = s .x2; y = s .y2 }
-
-abbrev a : Shape → Position
-a s = record { x = s .ax; y = s .ay }
-
-abbrev b : Shape → Position
-b s = record { x = s .bx; y = s .by }
 
 module _ (u v : Shape) (made : Made u × Made v) where
   abbrev by-shape : Position → Params
-  by-shape w = paramsBy (v .cross) (first v) (a v) (b v) w
+  by-shape w = paramsBy (v .cross) (first v) (sideA v) (sideB v) w
 
   by-corners : (w : Position) {p : Params} → p ≡ by-shape w → p ≡ valuesOf (parametersBy f64 (given (v .cross)) (at (first v)) (at (second v)) (at (third v)) (at w))
-  by-corners w = by-sides (v .cross) (first v) (second v) (third v) w (ap a (made .1)) (ap b (made .1))
+  by-corners w = by-sides (v .cross) (first v) (second v) (third v) w (ap sideA (made .1)) (ap sideB (made .1))
 
   pub shapes-give : {p q r : Params} → p ≡ by-shape (first u) → q ≡ by-shape (second u) → r ≡ by-shape (third u) →
       (v .cross ≡ dOfV (twelve u v) .value) × (u .cross ≡ eOfU (twelve u v) .value) × (p ≡ paramsOf (twelve u v) 0) × (q ≡ paramsOf (twelve u v) 1) × (r ≡ paramsOf (twelve u v) 2)

@@ -1,24 +1,35 @@
--- The steps of the code from the values to the answer. That they give the answer of the rules is the entry point's promise. Definitions only.
-use mathlib.Core.Bool.{Bool, true, false, not, _&&_, cond}
+-- The steps of the code from the values to the answer. That they give the answer of the rules is the entry point's promise. Definitions and a statement.
+use mathlib.Core.Path.{_≡_}
+use mathlib.Core.Bool.{Bool, true, false, _&&_, cond}
 use mathlib.Core.List.{List, [], _∷_, _++_}
 use Prim.Native.Nat.{ℕ, zero, suc, _+_, _-_, _*_, _/_, _%_}
+use lib.Dec.{eqb}
 use lib.ListN.{getD}
 use lib.Ieee.{Float, nan, binary64, add, mul, neg, lt}
-use Rattle.floats.specs.Finite.{nought}
+use Rattle.floats.specs.Finite.{finite, nought}
 use Rattle.floats.specs.Numbers.{crossFrom}
 use Rattle.floats.specs.Way.{f64, at}
 use Rattle.floats.specs.declared.Position.{Position}
 use Rattle.lines.specs.Lines.{signsAt, start, finish}
 use Rattle.lines.specs.declared.Params.{Params}
-use Rattle.lines.specs.Parameters.{parameter, carried}
+use Rattle.lines.specs.Parameters.{parameter, carried, paramsBy, signsOf}
 use Rattle.ring.specs.Places.{Place, vertex, corner, crossing}
-use Rattle.edges.specs.Code.{paramsAt}
+use Rattle.edges.specs.Code.{paramsAt, orderOn}
 use Rattle.walk.specs.declared.Corner.{Corner}
-use Rattle.walk.specs.Code.{coded, placeOf}
+use Rattle.walk.specs.declared.Ring.{Ring}
+use Rattle.walk.specs.Code.{coded, placeOf, ringOf}
 use Rattle.crossings.specs.declared.Spot.{Spot}
 use Rattle.crossings.specs.Crossing.{spotOn}
 use Rattle.triangles.specs.Positions.{half}
 use Rattle.triangles.specs.Refusals.{coordinates, wayToD, dZero, wayToE, eZero, wayToParameter, firstOf}
+use Rattle.triangles.specs.declared.Answer.{Answer}
+use Rattle.triangles.specs.declared.Decision.{Decision}
+use Rattle.triangles.specs.declared.Decision.the-variants.{Apart}
+use Rattle.triangles.specs.Answers.{refusal, written}
+use Rattle.triangles.specs.Decision.{enough, decided, Decided}
+use Rattle.front.specs.Front.{beyondBy, numberBy}
+use Rattle.shapes.specs.declared.Shape.{Shape}
+use Rattle.shapes.specs.Shapes.{Made, first, second, third, sideA, sideB, twelve}
 
 -- position k of six: U0, U1, U2, V0, V1, V2
 abbrev pub positionAt : List Float → ℕ → Position
@@ -79,3 +90,57 @@ sumBy xy (suc m) = add binary64 (sumBy xy m) (crossFrom f64 (at (positionAt xy 0
 
 unfoldable pub areaBy : List Float → ℕ → Float
 areaBy xy n = let sum = sumBy xy (n - 2) in mul binary64 half (cond (lt sum nought) (neg sum) sum)
+
+-- ---- the rest of the way, from any d, e and parameters: of a pair's own it is the answer of the rules (`settled-keeps`, proofs/Kept.antt)
+-- what is answered, and the room afterwards
+pub record Outcome : Type 0 where
+  pub answer : Answer
+  pub room : List Float
+
+-- a result and a room that are those of an outcome
+pub record Leaves (o : Outcome) (result : Answer) (after : List Float) : Type 0 where
+  pub result-is : result ≡ o .answer
+  pub after-is : after ≡ o .room
+
+abbrev pub refusedWith : ℕ → List Float → Outcome
+refusedWith k room = record { answer = refusal k; room = room }
+
+abbrev pub answeredWith : Ring → Float → List Float → Outcome
+answeredWith w area room = record {
+  answer = record { number = 0; n = w .n; area = area; «u_in_v» = w .«u_in_v»; «v_in_u» = w .«v_in_u»; neighbour = w .neighbour };
+  room = room;
+}
+
+-- from the ring on: its positions and its area, refused where a denominator or the area is not finite
+unfoldable pub placedAs : List Float → List Float → List Params → List (List Bool) → Ring → Outcome
+placedAs l room ps ss w =
+    let spots = spotsTo l ps ss (w .places) (w .n) in
+    let area = areaBy spots (w .n) in
+    cond (fineTo l ps ss (w .places) (w .n) && finite area) (answeredWith w area (written spots room)) (refusedWith 4 room)
+
+-- from the parameters on: the orders along U's edges, refused where a pair test that was computed is not finite
+unfoldable pub orderedBy : List Float → List Float → Params → Params → Params → Outcome
+orderedBy l room p q r =
+    let ps = p ∷ q ∷ r ∷ [] in
+    let ss = signsOf p ∷ signsOf q ∷ signsOf r ∷ [] in
+    let a = orderOn ps ss 0 in
+    let b = orderOn ps ss 1 in
+    let c = orderOn ps ss 2 in
+    cond (a .fine && (b .fine && c .fine)) (placedAs l room ps ss (ringOf ss (a .before ∷ b .before ∷ c .before ∷ []))) (refusedWith 4 room)
+
+-- from d, e and the parameters on: the rows before the pair tests first
+unfoldable pub settledBy : List Float → List Float → Float → Float → Params → Params → Params → Outcome
+settledBy l room d e p q r = let k = numberBy l d e p q r in cond (eqb k 0) (orderedBy l room p q r) (refusedWith k room)
+
+-- ---- of two triangles made ready, whatever their eleven numbers are: the sides and the crosses are taken as they stand
+unfoldable pub decisionBy : Shape → Shape → Decision
+decisionBy u v =
+    let by : Position → Params = paramsBy (v .cross) (first v) (sideA v) (sideB v) in
+    let p = by (first u) in
+    let q = by (second u) in
+    let r = by (third u) in
+    cond (beyondBy (v .cross) (u .cross) p q r) Apart (decided (settledBy (twelve u v) enough (v .cross) (u .cross) p q r .answer))
+
+-- where each was made ready from its own vertices, it is the decision of their twelve values
+abbrev pub DecidedOfMade : Type 0
+DecidedOfMade = (u v : Shape) → Made u × Made v → Decided (twelve u v) (decisionBy u v)

@@ -2,20 +2,13 @@
 mod spots;
 
 ghost use mathlib.Core.Path.{_≡_};
-ghost use mathlib.Core.Bool.{true};
-ghost use mathlib.Core.List.{[], _∷_};
 ghost use Prim.Native.Nat.{_*_, _≤_};
 ghost use lib.ListN.{length, take};
-ghost use Rattle.floats.specs.Lists.{all};
-ghost use Rattle.floats.specs.Finite.{finite};
-ghost use Rattle.walk.specs.Code.{befores};
-ghost use Rattle.triangles.specs.Pair.{dOfV, eOfU, paramsOf, vertexSigns, edgeOrders};
-ghost use Rattle.triangles.specs.Refusals.{wayToPairTest, wayOf};
+ghost use Rattle.walk.specs.Code.{ringOf};
 ghost use Rattle.triangles.specs.Answers.{refusal, written};
 ghost use Rattle.triangles.specs.Promise.{Promise};
 ghost use Rattle.triangles.specs.Decision.{Decided};
-ghost use Rattle.routine.specs.Code.{frontOf};
-ghost use Rattle.shapes.specs.Shapes.{Made, twelve};
+ghost use Rattle.routine.specs.Code.{Leaves, placedAs, orderedBy, settledBy, decisionBy};
 use spots::area_of;
 use spots::corners_of;
 use spots::position_at;
@@ -55,9 +48,8 @@ fn placed(
     signs: [[bool; 3]; 3],
     before: [[bool; 3]; 3],
 ) -> triangles::Answer
-    requires { ⌜ (length (now values) ≡ 12) × (12 ≤ length (now room)) × (frontOf (now values) ≡ 0) × (all finite (wayOf wayToPairTest (now values)) ≡ true) ⌝ }
-    requires { ⌜ (params ≡ paramsOf (now values) 0 ∷ paramsOf (now values) 1 ∷ paramsOf (now values) 2 ∷ []) × (signs ≡ vertexSigns (now values)) × (before ≡ befores (edgeOrders (now values))) ⌝ }
-    ensures { λ r. ⌜ Promise (now (values .entry)) (now (room .entry)) r (now (room .exit)) ⌝ }
+    requires { ⌜ (length (now values) ≡ 12) × (12 ≤ length (now room)) ⌝ }
+    ensures { λ r. ⌜ Leaves (placedAs (now (values .entry)) (now (room .entry)) params signs (ringOf signs before)) r (now (room .exit)) ⌝ }
 {
     let w = walk::ring_of(signs, before);
     let places = w.places;
@@ -90,15 +82,15 @@ fn ordered(
     q: lines::Params,
     r: lines::Params,
 ) -> triangles::Answer
-    requires { ⌜ (length (now values) ≡ 12) × (12 ≤ length (now room)) × (frontOf (now values) ≡ 0) ⌝ }
-    requires { ⌜ (p ≡ paramsOf (now values) 0) × (q ≡ paramsOf (now values) 1) × (r ≡ paramsOf (now values) 2) ⌝ }
-    ensures { λ r. ⌜ Promise (now (values .entry)) (now (room .entry)) r (now (room .exit)) ⌝ }
+    requires { ⌜ (length (now values) ≡ 12) × (12 ≤ length (now room)) ⌝ }
+    ensures { λ a. ⌜ Leaves (orderedBy (now (values .entry)) (now (room .entry)) p q r) a (now (room .exit)) ⌝ }
 {
     let params = [p, q, r];
     let signs = [lines::signs_of(p), lines::signs_of(q), lines::signs_of(r)];
-    let a = edges::order_on(params, signs, 0);
-    let b = edges::order_on(params, signs, 1);
-    let c = edges::order_on(params, signs, 2);
+    let orders = edges::orders_of(params, signs);
+    let a = orders[0];
+    let b = orders[1];
+    let c = orders[2];
     if a.fine & (b.fine & c.fine) {
         let x = a.before;
         let y = b.before;
@@ -119,8 +111,7 @@ fn settled(
     r: lines::Params,
 ) -> triangles::Answer
     requires { ⌜ (length (now values) ≡ 12) × (12 ≤ length (now room)) ⌝ }
-    requires { ⌜ (d ≡ dOfV (now values) .value) × (e ≡ eOfU (now values) .value) × (p ≡ paramsOf (now values) 0) × (q ≡ paramsOf (now values) 1) × (r ≡ paramsOf (now values) 2) ⌝ }
-    ensures { λ r. ⌜ Promise (now (values .entry)) (now (room .entry)) r (now (room .exit)) ⌝ }
+    ensures { λ a. ⌜ Leaves (settledBy (now (values .entry)) (now (room .entry)) d e p q r) a (now (room .exit)) ⌝ }
 {
     let k = front::number_of(values, d, e, p, q, r);
     if k == 0 {
@@ -164,10 +155,10 @@ pub fn decision(values: &[f64]) -> triangles::Decision
     decisions::decision_from(intersect(values, &mut room))
 }
 
-// Two triangles, each made ready by `shapes::shape_of`: what is decided of them.
+// What is decided of two shapes, by their sides and crosses as they stand. Where each was made ready by `shapes::shape_of` it is what is decided of their
+// twelve values.
 pub fn decision_of(u: shapes::Shape, v: shapes::Shape) -> triangles::Decision
-    requires { ⌜ Made u × Made v ⌝ }
-    ensures { λ r. ⌜ Decided (twelve u v) r ⌝ }
+    ensures { λ r. ⌜ r ≡ decisionBy u v ⌝ }
 {
     let d = v.cross;
     let e = u.cross;

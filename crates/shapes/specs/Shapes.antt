@@ -4,6 +4,7 @@ use mathlib.Core.List.{List, [], _∷_}
 use lib.Ieee.{Float, binary64, sub}
 use Rattle.floats.specs.Numbers.{crossFrom}
 use Rattle.floats.specs.Way.{f64, givenPoint}
+use Rattle.floats.specs.declared.Position.{Position}
 use Rattle.shapes.specs.declared.Shape.{Shape}
 
 -- of three vertices: themselves, the sides from the first to the second and to the third, and their cross, which is d of a V and e of a U
@@ -25,6 +26,23 @@ shapeOf x0 y0 x1 y1 x2 y2 = record {
 -- a shape that is that of its own vertices
 abbrev pub Made : Shape → Type 0
 Made s = s ≡ shapeOf (s .x0) (s .y0) (s .x1) (s .y1) (s .x2) (s .y2)
+
+-- a shape's vertices
+abbrev pub first : Shape → Position
+first s = record { x = s .x0; y = s .y0 }
+
+abbrev pub second : Shape → Position
+second s = record { x = s .x1; y = s .y1 }
+
+abbrev pub third : Shape → Position
+third s = record { x = s .x2; y = s .y2 }
+
+-- its sides, from the first vertex to the second and to the third
+abbrev pub sideA : Shape → Position
+sideA s = record { x = s .ax; y = s .ay }
+
+abbrev pub sideB : Shape → Position
+sideB s = record { x = s .bx; y = s .by }
 
 -- U0x, U0y, .. V2y
 abbrev pub twelve : Shape → Shape → List Float

@@ -2,6 +2,7 @@
 use mathlib.Core.Logic.{inl, inr}
 use denote.Ref.{now}
 use Rattle.routine.proofs.Entry.{all-given, beyond-kept, kept-as, lengths-kept}
+use Rattle.routine.proofs.Kept.{settled-keeps, leaves-kept}
 use borrow.Author.Needs.{needs}
 use Rattle.routine.proofs.intersect.Statement.{statement}
 use Rattle.routine.proofs.intersect.Tie as tie
@@ -99,19 +100,38 @@ settled-requires c κs =
     let b13 = b12 .before in
     let b14 = b13 .before in
     let b15 = b14 .before in
-    let b16 = b15 .before in
-    let b17 = b16 .before in
-    let b18 = b17 .before in
-    let g = b18 .args in
-    let all = all-given (now (g .values)) (b13 .position-at .ensures) (b12 .position-at2 .ensures) (b11 .position-at3 .ensures) (b10 .position-at4 .ensures) (b9 .position-at5 .ensures) (b8 .position-at6 .ensures)
-    (b7 .cross-from .ensures) (b6 .cross-from2 .ensures) (b5 .params-of .ensures) (b4 .params-of2 .ensures) (b3 .params-of3 .ensures) in
-    ((b15 .if1 .left, b14 .if2 .left), all)
+    (b15 .if1 .left, b14 .if2 .left)
 
 same-length : tie.Need-same-length
 same-length c = search needs
 
 returns-4 : tie.Need-returns-4
-returns-4 c = search needs
+returns-4 c =
+    let b1 = c .before in
+    let b2 = b1 .before in
+    let b3 = b2 .before in
+    let b4 = b3 .before in
+    let b5 = b4 .before in
+    let b6 = b5 .before in
+    let b7 = b6 .before in
+    let b8 = b7 .before in
+    let b9 = b8 .before in
+    let b10 = b9 .before in
+    let b11 = b10 .before in
+    let b12 = b11 .before in
+    let b13 = b12 .before in
+    let b14 = b13 .before in
+    let b15 = b14 .before in
+    let b16 = b15 .before in
+    let b17 = b16 .before in
+    let b18 = b17 .before in
+    let b19 = b18 .before in
+    let b20 = b19 .before in
+    let b21 = b20 .before in
+    let g = b21 .args in
+    let all = all-given (now (g .values)) (b16 .position-at .ensures) (b15 .position-at2 .ensures) (b14 .position-at3 .ensures) (b13 .position-at4 .ensures) (b12 .position-at5 .ensures) (b11 .position-at6 .ensures)
+    (b10 .cross-from .ensures) (b9 .cross-from2 .ensures) (b8 .params-of .ensures) (b7 .params-of2 .ensures) (b6 .params-of3 .ensures) in
+    leaves-kept (now (g .values)) (now (g .room)) (b2 .settled .ensures) (settled-keeps (now (g .values)) (now (g .room)) _ _ _ _ _ (b18 .if1 .left) (b17 .if2 .left) all)
 
 pub intersect-spec : {M : Type 1} → statement M
 intersect-spec =

@@ -1,6 +1,6 @@
 -- The orders are decided, and refused if one of their pair tests is not finite.
+use Rattle.routine.proofs.Steps.{orders-leave, tests-leave}
 use denote.Ref.{now}
-use Rattle.routine.proofs.Entry.{tests-known, all-named, tests-refusal-kept}
 use borrow.Author.Needs.{needs}
 use Rattle.routine.proofs.ordered.Statement.{statement}
 use Rattle.routine.proofs.ordered.Tie as tie
@@ -14,17 +14,26 @@ signs-of-requires-2 c κs = search needs
 signs-of-requires-3 : tie.Need-signs-of-requires-3
 signs-of-requires-3 c κs = search needs
 
-order-on-requires : tie.Need-order-on-requires
-order-on-requires c κs = search needs
+orders-of-requires : tie.Need-orders-of-requires
+orders-of-requires c κs = search needs
 
-order-on-requires-2 : tie.Need-order-on-requires-2
-order-on-requires-2 c κs = search needs
+array-copy-out-a : tie.Need-array-copy-out-a
+array-copy-out-a c = search needs
 
-order-on-requires-3 : tie.Need-order-on-requires-3
-order-on-requires-3 c κs = search needs
+array-copy-out-b : tie.Need-array-copy-out-b
+array-copy-out-b c = search needs
+
+array-copy-out-c : tie.Need-array-copy-out-c
+array-copy-out-c c = search needs
 
 placed-requires : tie.Need-placed-requires
-placed-requires c κs =
+placed-requires c κs = search needs
+
+same-length : tie.Need-same-length
+same-length c = search needs
+
+returns : tie.Need-returns
+returns c =
     let b1 = c .before in
     let b2 = b1 .before in
     let b3 = b2 .before in
@@ -41,16 +50,12 @@ placed-requires c κs =
     let b14 = b13 .before in
     let b15 = b14 .before in
     let b16 = b15 .before in
-    let g = b16 .args in (
-      tests-known (now (g .values)) (now (g .room)) (g .p) (g .q) (g .r) _ _ _ (b16 .pre .0) (b16 .pre .1) (b13 .signs-of .ensures) (b12 .signs-of2 .ensures) (b11 .signs-of3 .ensures) _ _ _ (b10 .order-on .ensures) (b9 .order-on2 .ensures) (b8 .order-on3 .ensures) (b4 .if1 .taken),
-      all-named (now (g .values)) (now (g .room)) (g .p) (g .q) (g .r) _ _ _ (b16 .pre .0) (b16 .pre .1) (b13 .signs-of .ensures) (b12 .signs-of2 .ensures) (b11 .signs-of3 .ensures) _ _ _ (b10 .order-on .ensures) (b9 .order-on2 .ensures) (b8 .order-on3 .ensures),
-    )
-
-same-length : tie.Need-same-length
-same-length c = search needs
-
-returns : tie.Need-returns
-returns c = search needs
+    let b17 = b16 .before in
+    let b18 = b17 .before in
+    let b19 = b18 .before in
+    let b20 = b19 .before in
+    let g = b20 .args in
+    orders-leave (now (g .values)) (now (g .room)) (g .p) (g .q) (g .r) _ _ _ (b17 .signs-of .ensures) (b16 .signs-of2 .ensures) (b15 .signs-of3 .ensures) _ (b14 .orders-of .ensures) (b7 .if1 .taken) (b2 .placed .ensures)
 
 refused-requires : tie.Need-refused-requires
 refused-requires c κs = search needs
@@ -70,8 +75,9 @@ returns-2 c =
     let b11 = b10 .before in
     let b12 = b11 .before in
     let b13 = b12 .before in
-    let g = b13 .args in
-    tests-refusal-kept (now (g .values)) (now (g .room)) (g .p) (g .q) (g .r) _ _ _ (b13 .pre .0) (b13 .pre .1) (b10 .signs-of .ensures) (b9 .signs-of2 .ensures) (b8 .signs-of3 .ensures) _ _ _ (b7 .order-on .ensures) (b6 .order-on2 .ensures) (b5 .order-on3 .ensures) (b1 .if1 .left) (c .refused .ensures)
+    let b14 = b13 .before in
+    let g = b14 .args in
+    tests-leave (now (g .values)) (now (g .room)) (g .p) (g .q) (g .r) _ _ _ (b11 .signs-of .ensures) (b10 .signs-of2 .ensures) (b9 .signs-of3 .ensures) _ (b8 .orders-of .ensures) (b1 .if1 .left) (c .refused .ensures)
 
 pub ordered-spec : {M : Type 1} → statement M
 ordered-spec =
@@ -80,9 +86,10 @@ ordered-spec =
     signs-of-requires
     signs-of-requires-2
     signs-of-requires-3
-    order-on-requires
-    order-on-requires-2
-    order-on-requires-3
+    orders-of-requires
+    array-copy-out-a
+    array-copy-out-b
+    array-copy-out-c
     placed-requires
     same-length
     returns

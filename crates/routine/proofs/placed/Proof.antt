@@ -1,7 +1,7 @@
 -- The room is written only where the answer is known to be finite.
 use native.Mathlib.Omega.{arith}
+use Rattle.routine.proofs.Steps.{ring-fits, answer-leaves, late-leaves}
 use denote.Ref.{now}
-use Rattle.routine.proofs.Entry.{at-most-six, answer-kept, late-refusal-kept}
 use borrow.Author.Needs.{needs}
 use Rattle.routine.proofs.placed.Statement.{statement}
 use Rattle.routine.proofs.placed.Tie as tie
@@ -11,23 +11,14 @@ ring-of-requires c κs = search needs
 
 corners-of-requires : tie.Need-corners-of-requires
 corners-of-requires c κs =
-    let b1 = c .before in
-    let b2 = b1 .before in
-    let b3 = b2 .before in
-    let b4 = b3 .before in
-    let g = b4 .args in
-    (b4 .pre .0 .0, at-most-six (now (g .values)) (now (g .room)) (g .params) (g .signs) (g .before) (b4 .pre .0) (b4 .pre .1) _ (b1 .ring-of .ensures))
+    let b4 = c .before .before .before .before in
+    (b4 .pre .0, ring-fits (b4 .args .signs) (b4 .args .before) (c .before .ring-of .ensures))
 
 area-of-requires : tie.Need-area-of-requires
 area-of-requires c κs =
-    let b1 = c .before in
-    let b2 = b1 .before in
-    let b3 = b2 .before in
-    let b4 = b3 .before in
-    let b5 = b4 .before in
-    let b6 = b5 .before in
-    let g = b6 .args in
-    at-most-six (now (g .values)) (now (g .room)) (g .params) (g .signs) (g .before) (b6 .pre .0) (b6 .pre .1) _ (b3 .ring-of .ensures)
+    let b3 = c .before .before .before in
+    let g = b3 .before .before .before .args in
+    ring-fits (g .signs) (g .before) (b3 .ring-of .ensures)
 
 is-finite-requires : tie.Need-is-finite-requires
 is-finite-requires c κs = search needs
@@ -46,7 +37,7 @@ write-requires c κs =
     let b10 = b9 .before in
     let b11 = b10 .before in
     let g = b11 .args in
-    (at-most-six (now (g .values)) (now (g .room)) (g .params) (g .signs) (g .before) (b11 .pre .0) (b11 .pre .1) _ (b8 .ring-of .ensures), b11 .pre .0 .1)
+    (ring-fits (g .signs) (g .before) (b8 .ring-of .ensures), b11 .pre .1)
 
 cast-t20 : tie.Need-cast-t20
 cast-t20 c =
@@ -68,8 +59,7 @@ cast-t20 c =
     let b16 = b15 .before in
     let b17 = b16 .before in
     let g = b17 .args in
-    let h = at-most-six (now (g .values)) (now (g .room)) (g .params) (g .signs) (g .before) (b17 .pre .0) (b17 .pre .1) _ (b14 .ring-of .ensures) in
-    omega (arith, h)
+    omega (arith, ring-fits (g .signs) (g .before) (b14 .ring-of .ensures))
 
 same-length : tie.Need-same-length
 same-length c = search needs
@@ -94,8 +84,8 @@ returns c =
     let b16 = b15 .before in
     let b17 = b16 .before in
     let g = b17 .args in
-    answer-kept (now (g .values)) (now (g .room)) (g .params) (g .signs) (g .before) (b17 .pre .0) (b17 .pre .1) _ (b14 .ring-of .ensures)
-    _ _ _ _ (b12 .corners-of .ensures) (b10 .area-of .ensures) (b9 .is-finite .ensures) (b7 .if1 .taken) (b5 .write .ensures)
+    answer-leaves (now (g .values)) (now (g .room)) (g .params) (g .signs) _ _ _ _ _ (b12 .corners-of .ensures) (b10 .area-of .ensures) (b9 .is-finite .ensures)
+    (b14 .ring-of .ensures) (b7 .if1 .taken) (b5 .write .ensures)
 
 refused-requires : tie.Need-refused-requires
 refused-requires c κs = search needs
@@ -114,8 +104,8 @@ returns-2 c =
     let b10 = b9 .before in
     let b11 = b10 .before in
     let g = b11 .args in
-    late-refusal-kept (now (g .values)) (now (g .room)) (g .params) (g .signs) (g .before) (b11 .pre .0) (b11 .pre .1) _ (b8 .ring-of .ensures)
-    _ _ _ _ (b6 .corners-of .ensures) (b4 .area-of .ensures) (b3 .is-finite .ensures) (b1 .if1 .left) (c .refused .ensures)
+    late-leaves (now (g .values)) (now (g .room)) (g .params) (g .signs) _ _ _ _ _ (b6 .corners-of .ensures) (b4 .area-of .ensures) (b3 .is-finite .ensures)
+    (b8 .ring-of .ensures) (b1 .if1 .left) (c .refused .ensures)
 
 pub placed-spec : {M : Type 1} → statement M
 placed-spec =

@@ -9,6 +9,7 @@ use Rattle.leaklist.specs.Code.{rowIn}
 use Rattle.listing.specs.Pairs.{tallied}
 use Rattle.listing.specs.Turns.{folded}
 use Rattle.shapes.specs.Shapes.{Made}
+use Rattle.routine.proofs.Decisions.{decided-of-made}
 use Rattle.leaklist.proofs.tallies.row.Statement.{statement}
 use Rattle.leaklist.proofs.tallies.row.Tie as tie
 
@@ -31,8 +32,7 @@ shape-in-requires-2 : tie.Need-shape-in-requires-2 Inv-loop μ-loop
 shape-in-requires-2 c κs = search needs
 
 decision-of-requires : tie.Need-decision-of-requires Inv-loop μ-loop
-decision-of-requires c κs = let p = c .before .before .before .before .before .pre in
-    (subst Made (sym (c .before .before .before .shape-in .ensures)) (p .0), subst Made (sym (c .shape-in2 .ensures)) (p .1 (c .before .before .loop .b) (c .before .loop-test .taken)))
+decision-of-requires c κs = search needs
 
 tallied-requires : tie.Need-tallied-requires Inv-loop μ-loop
 tallied-requires c κs = search needs
@@ -46,8 +46,12 @@ loop-less c = search needs
 loop-again : tie.Need-loop-again Inv-loop μ-loop
 loop-again c = let l = c .before .before .before .before .loop in
     let g = c .before .before .before .before .before .before .before .args in
+    let p = c .before .before .before .before .before .before .before .pre in
+    let u = c .before .before .before .before .before .shape-in .ensures in
+    let v = c .before .before .shape-in2 .ensures in
+    let made = decided-of-made _ _ (subst Made (sym u) (p .0), subst Made (sym v) (p .1 (l .b) (c .before .before .before .loop-test .taken))) in
     let t = c .tallied .ensures in
-    (omega (arith, c .before .before .before .loop-test .taken), row-turn (now (g .table)) (g .t) (g .i) (g .j) (l .b) (c .before .before .before .before .before .shape-in .ensures) (c .before .before .shape-in2 .ensures) (c .before .decision-of .ensures .result-is) (l .inv .1) (t .0), omega (arith, t .1, l .inv .2))
+    (omega (arith, c .before .before .before .loop-test .taken), row-turn (now (g .table)) (g .t) (g .i) (g .j) (l .b) u v (c .before .decision-of .ensures ∙ made .result-is) (l .inv .1) (t .0), omega (arith, t .1, l .inv .2))
 
 returns : tie.Need-returns Inv-loop μ-loop
 returns c = let l = c .before .loop in

@@ -1,6 +1,5 @@
 -- Below 6 a position of the input; above it a crossing, from the end that is plus.
 use mathlib.Core.Path.{ap, _∙_}
-use denote.Ref.{now}
 use Rattle.routine.specs.Code.{copied}
 use Rattle.routine.proofs.Decoded.{decoded-position, from-start, from-finish}
 use borrow.Author.Needs.{needs}

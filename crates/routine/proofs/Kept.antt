@@ -1,0 +1,100 @@
+-- Of a pair's own d, e and parameters the steps of the code give the answer of the rules. Assumes nothing.
+use mathlib.Core.Path.{_≡_, refl, sym, ap, _∙_}
+use mathlib.Core.Bool.{Bool, true, false, _&&_, cond}
+use mathlib.Core.List.{List, [], _∷_}
+use Prim.Native.Nat.{ℕ, zero, suc, _+_, _*_, _≤_}
+use native.Mathlib.Omega.{arith}
+use lib.Dec.{eqb}
+use lib.Ieee.{Float}
+use lib.ListN.{length, length-append, take}
+use lib.Seq.{take-length}
+use borrow.Author.Tests.{eqb-true, eqb-false}
+use Rattle.floats.specs.Lists.{all}
+use Rattle.floats.specs.Finite.{finite}
+use Rattle.lines.specs.declared.Params.{Params}
+use Rattle.lines.specs.Parameters.{signsOf}
+use Rattle.edges.specs.declared.Order.{Order}
+use Rattle.edges.specs.Code.{orderOn}
+use Rattle.walk.specs.declared.Corner.{Corner}
+use Rattle.walk.specs.declared.Ring.{Ring}
+use Rattle.walk.specs.Code.{befores, ringOf}
+use Rattle.front.specs.Front.{numberBy}
+use Rattle.triangles.specs.Pair.{dOfV, eOfU, paramsOf, vertexSigns, edgeOrders}
+use Rattle.triangles.specs.Refusals.{wayToPairTest, wayOf}
+use Rattle.triangles.specs.declared.Answer.{Answer}
+use Rattle.triangles.specs.Answers.{written}
+use Rattle.triangles.specs.Promise.{Promise}
+use Rattle.routine.specs.Code.{frontOf, spotsTo, fineTo, areaBy, Outcome, Leaves, refusedWith, answeredWith, placedAs, orderedBy, settledBy}
+use Rattle.routine.proofs.Crossings.{params}
+use Rattle.routine.proofs.Front.{number-is}
+use Rattle.routine.proofs.Entry.{answer-kept, late-refusal-kept, tests-known, all-named, tests-refusal-kept, front-kept}
+
+abbrev Keeps : List Float → List Float → Outcome → Type 0
+Keeps l room o = Promise l room (o .answer) (o .room)
+
+-- ---- from the ring on
+spots-length : (l : List Float) (ps : List Params) (ss : List (List Bool)) (places : List Corner) (n : ℕ) → length (spotsTo l ps ss places n) ≡ 2 * n
+unfolding spotsTo
+spots-length l ps ss places zero = refl
+spots-length l ps ss places (suc n) =
+    let two : 2 * n + 2 ≡ 2 * suc n = omega arith in
+    length-append (spotsTo l ps ss places n) _ ∙ (ap (λ m. m + 2) (spots-length l ps ss places n) ∙ two)
+
+module _ (l room : List Float) (ps : List Params) (ss bs : List (List Bool)) (known : (length l ≡ 12) × (12 ≤ length room) × (frontOf l ≡ 0) × (all finite (wayOf wayToPairTest l) ≡ true)) (named : (ps ≡ params l) × (ss ≡ vertexSigns l) × (bs ≡ befores (edgeOrders l))) where
+  abbrev w : Ring
+  w = ringOf ss bs
+
+  abbrev spots : List Float
+  spots = spotsTo l ps ss (w .places) (w .n)
+
+  abbrev ok : Bool
+  ok = fineTo l ps ss (w .places) (w .n)
+
+  abbrev area : Float
+  area = areaBy spots (w .n)
+
+  laid : take (2 * w .n) spots ≡ spots
+  laid = ap (λ m. take m spots) (sym (spots-length l ps ss (w .places) (w .n))) ∙ take-length spots
+
+  placed-keeps : Keeps l room (placedAs l room ps ss w)
+  unfolding placedAs
+  placed-keeps = go (ok && finite area) refl
+    where
+      go : (b : Bool) → (ok && finite area) ≡ b → Keeps l room (cond b (answeredWith w area (written spots room)) (refusedWith 4 room))
+      go true h = answer-kept l room ps ss bs known named w refl spots ok (finite area) area (laid, refl) refl refl h (ap (λ v. written v room) (sym laid))
+      go false h = late-refusal-kept l room ps ss bs known named w refl spots ok (finite area) area (laid, refl) refl refl h refl
+
+-- ---- from the parameters on
+module _ (l room : List Float) (p q r : Params) (known : (length l ≡ 12) × (12 ≤ length room) × (frontOf l ≡ 0)) (named : (p ≡ paramsOf l 0) × (q ≡ paramsOf l 1) × (r ≡ paramsOf l 2)) where
+  abbrev ps : List Params
+  ps = p ∷ q ∷ r ∷ []
+
+  abbrev ss : List (List Bool)
+  ss = signsOf p ∷ signsOf q ∷ signsOf r ∷ []
+
+  abbrev on : ℕ → Order
+  on e = orderOn ps ss e
+
+  abbrev bs : List (List Bool)
+  bs = on 0 .before ∷ on 1 .before ∷ on 2 .before ∷ []
+
+  ordered-keeps : Keeps l room (orderedBy l room p q r)
+  unfolding orderedBy
+  ordered-keeps = go (on 0 .fine && (on 1 .fine && on 2 .fine)) refl
+    where
+      go : (b : Bool) → (on 0 .fine && (on 1 .fine && on 2 .fine)) ≡ b → Keeps l room (cond b (placedAs l room ps ss (ringOf ss bs)) (refusedWith 4 room))
+      go true h = placed-keeps l room ps ss bs (tests-known l room p q r (signsOf p) (signsOf q) (signsOf r) known named refl refl refl (on 0) (on 1) (on 2) refl refl refl h) (all-named l room p q r (signsOf p) (signsOf q) (signsOf r) known named refl refl refl (on 0) (on 1) (on 2) refl refl refl)
+      go false h = tests-refusal-kept l room p q r (signsOf p) (signsOf q) (signsOf r) known named refl refl refl (on 0) (on 1) (on 2) refl refl refl h refl
+
+-- ---- from d, e and the parameters on
+pub settled-keeps : (l room : List Float) (d e : Float) (p q r : Params) → length l ≡ 12 → 12 ≤ length room → (d ≡ dOfV l .value) × (e ≡ eOfU l .value) × (p ≡ paramsOf l 0) × (q ≡ paramsOf l 1) × (r ≡ paramsOf l 2) → Keeps l room (settledBy l room d e p q r)
+unfolding settledBy
+settled-keeps l room d e p q r n m named = go (eqb (numberBy l d e p q r) 0) refl
+  where
+    go : (b : Bool) → eqb (numberBy l d e p q r) 0 ≡ b → Keeps l room (cond b (orderedBy l room p q r) (refusedWith (numberBy l d e p q r) room))
+    go true h = ordered-keeps l room p q r (n, m, sym (number-is l d e p q r named n refl) ∙ eqb-true (numberBy l d e p q r) 0 h) (named .2, named .3, named .4)
+    go false h = front-kept l room refl n m (number-is l d e p q r named n refl) (eqb-false (numberBy l d e p q r) 0 h)
+
+-- what leaves such an outcome keeps the promise
+pub leaves-kept : (l room : List Float) {o : Outcome} {answer : Answer} {after : List Float} → Leaves o answer after → Keeps l room o → Promise l room answer after
+leaves-kept l room h k = record { result-is = h .result-is ∙ k .result-is; after-is = h .after-is ∙ k .after-is }
