@@ -23,7 +23,8 @@ use Rattle.listing.specs.Turns.{upTo, each, folded}
 use Rattle.listing.specs.Pairs.{isTest, isTraining, placeIn, coordinatesAt, decisionAt, decisions, noneYet, tallied, tallyOf}
 use Rattle.listing.specs.Leaks.{Leak, tests, trainings, recordingPairs, pairsMeeting, isLeak, leakPairs, leakOf, leaks}
 use Rattle.listing.proofs.Turns.{below, map-append, each-append}
-use Rattle.leaklist.specs.Code.{shapeFrom, MadeFrom, Prepared, decisionIn, rowIn, tallyIn, Gathering, leaksIn, leakOn, itemOf, rowTo, testOf, listTo}
+use Rattle.writing.specs.Triples.{leaksIn}
+use Rattle.leaklist.specs.Code.{shapeFrom, MadeFrom, Prepared, decisionIn, rowIn, tallyIn, Gathering, leakOn, itemOf, rowTo, testOf, listTo}
 
 -- ---- the recording's triangles by number
 module _ (file : List ℕ) (good : Layout file) (i : ℕ) (there-is : i < countOf file) where

@@ -1,6 +1,6 @@
 pub mod Table
 pub mod Counted
-pub mod Lines
+pub mod Triples
 pub mod Gathered
 pub mod Written
 pub mod Said

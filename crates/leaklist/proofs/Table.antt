@@ -2,24 +2,25 @@
 use Prim.Native.Nat.{ℕ, suc, _+_, _*_, _<_, _≤_}
 use mathlib.Core.Path.{_≡_, refl, sym, ap, subst, _∙_}
 use mathlib.Core.Bool.{Bool, true, false}
-use mathlib.Core.List.{List, _++_}
+use mathlib.Core.List.{List}
 use native.Mathlib.Omega.{arith}
 use native.Mathlib.Nat.{add-zero}
 use lib.Dec.{ltb}
 use borrow.Author.Tests.{ltb-true, ltb-false}
-use lib.ListN.{length, getD, take, drop, set, length-append, List·getD-append}
-use lib.Seq.{sets, sets-eq, length-take-le, getD-take, getD-append-add}
+use lib.ListN.{length, getD, set}
 use lib.Ieee.{Float, nan}
+use Rattle.text.specs.Room.{laid}
+use Rattle.text.proofs.Room.{laid-sets, laid-before, laid-inside}
 use Rattle.shapes.specs.declared.Shape.{Shape}
 use Rattle.shapes.specs.Shapes.{shapeOf}
 use Rattle.layout.specs.Recordings.{f64At}
 use Rattle.leaklist.specs.Code.{elevenOf, shapeIn, shapeFrom, Prepared}
 
--- eleven stores, one after the other, are a run of stores
-pub eleven-sets : (l : List Float) (i : ℕ) (s : Shape) →
+-- eleven stores, one after the other, lay eleven values
+pub eleven-laid : (l : List Float) (i : ℕ) (s : Shape) → i + 11 ≤ length l →
     set (set (set (set (set (set (set (set (set (set (set l i (s .x0)) (i + 1) (s .y0)) (i + 2) (s .x1)) (i + 3) (s .y1)) (i + 4) (s .x2)) (i + 5) (s .y2)) (i + 6) (s .ax)) (i + 7) (s .ay)) (i + 8) (s .bx)) (i + 9) (s .by)) (i + 10) (s .cross)
-    ≡ sets l i (elevenOf s)
-eleven-sets l i s =
+    ≡ laid l i (elevenOf s)
+eleven-laid l i s fits =
     let e1 : i + 1 ≡ suc i = omega arith in
     let e2 : i + 2 ≡ suc (suc i) = omega arith in
     let e3 : i + 3 ≡ suc (suc (suc i)) = omega arith in
@@ -30,24 +31,7 @@ eleven-sets l i s =
     let e8 : i + 8 ≡ suc (suc (suc (suc (suc (suc (suc (suc i))))))) = omega arith in
     let e9 : i + 9 ≡ suc (suc (suc (suc (suc (suc (suc (suc (suc i)))))))) = omega arith in
     let e10 : i + 10 ≡ suc (suc (suc (suc (suc (suc (suc (suc (suc (suc i))))))))) = omega arith in
-    rw (e1, e2, e3, e4, e5, e6, e7, e8, e9, e10) refl
-
--- ---- a run of stores, looked at from outside and from inside
-module _ {A : Type 0} (l : List A) (i : ℕ) (vs : List A) (d : A) (fits : i + length vs ≤ length l) where
-  front : length (take i l) ≡ i
-  front = length-take-le i l (omega (arith, fits))
-
-  pub before-sets : (k : ℕ) → k < i → getD (sets l i vs) k d ≡ getD l k d
-  before-sets k h =
-      ap (λ x. getD x k d) (sets-eq vs l i fits)
-      ∙ (List·getD-append (take i l ++ vs) (drop (i + length vs) l) d k (omega (arith, h, length-append (take i l) vs, front))
-      ∙ (List·getD-append (take i l) vs d k (omega (arith, h, front)) ∙ getD-take i l k d h))
-
-  pub inside-sets : (k : ℕ) → k < length vs → getD (sets l i vs) (i + k) d ≡ getD vs k d
-  inside-sets k h =
-      ap (λ x. getD x (i + k) d) (sets-eq vs l i fits)
-      ∙ (List·getD-append (take i l ++ vs) (drop (i + length vs) l) d (i + k) (omega (arith, h, length-append (take i l) vs, front))
-      ∙ (ap (λ n. getD (take i l ++ vs) (n + k) d) (sym front) ∙ getD-append-add (take i l) vs k d))
+    rw (e1, e2, e3, e4, e5, e6, e7, e8, e9, e10) (sym (laid-sets l (elevenOf s) i fits))
 
 -- ---- shapes in the table
 shapeBy : Float → Float → Float → Float → Float → Float → Float → Float → Float → Float → Float → Shape
@@ -62,7 +46,7 @@ shape-same p0 p1 p2 p3 p4 p5 p6 p7 p8 p9 p10 = fields p0 p1 p2 p3 p4 p5 p6 p7 p8
 
 module _ (table : List Float) (n : ℕ) (s : Shape) (fits : 11 * n + 11 ≤ length table) where
   abbrev after : List Float
-  after = sets table (11 * n) (elevenOf s)
+  after = laid table (11 * n) (elevenOf s)
 
   -- the shape that was put
   pub put-there : shapeIn after n ≡ s
@@ -71,16 +55,16 @@ module _ (table : List Float) (n : ℕ) (s : Shape) (fits : 11 * n + 11 ≤ leng
       (ap (λ k. getD after k nan) (sym (add-zero (11 * n))) ∙ there 0 (omega arith))
       (there 1 (omega arith)) (there 2 (omega arith)) (there 3 (omega arith)) (there 4 (omega arith)) (there 5 (omega arith)) (there 6 (omega arith)) (there 7 (omega arith)) (there 8 (omega arith)) (there 9 (omega arith)) (there 10 (omega arith))
     where
-      there : (c : ℕ) → c < 11 → getD (sets table (11 * n) (elevenOf s)) (11 * n + c) nan ≡ getD (elevenOf s) c nan
-      there c h = inside-sets table (11 * n) (elevenOf s) nan fits c h
+      there : (c : ℕ) → c < 11 → getD (laid table (11 * n) (elevenOf s)) (11 * n + c) nan ≡ getD (elevenOf s) c nan
+      there c h = laid-inside table (elevenOf s) (11 * n) nan fits c h
 
   -- and those before it
   pub put-after : (k : ℕ) → k < n → shapeIn after k ≡ shapeIn table k
   put-after k h =
       shape-same (kept 0 (11 * k) (omega (arith, h))) (kept 1 (11 * k + 1) (omega (arith, h))) (kept 2 (11 * k + 2) (omega (arith, h))) (kept 3 (11 * k + 3) (omega (arith, h))) (kept 4 (11 * k + 4) (omega (arith, h))) (kept 5 (11 * k + 5) (omega (arith, h))) (kept 6 (11 * k + 6) (omega (arith, h))) (kept 7 (11 * k + 7) (omega (arith, h))) (kept 8 (11 * k + 8) (omega (arith, h))) (kept 9 (11 * k + 9) (omega (arith, h))) (kept 10 (11 * k + 10) (omega (arith, h)))
     where
-      kept : (c p : ℕ) → p < 11 * n → getD (sets table (11 * n) (elevenOf s)) p nan ≡ getD table p nan
-      kept c p g = before-sets table (11 * n) (elevenOf s) nan fits p g
+      kept : (c p : ℕ) → p < 11 * n → getD (laid table (11 * n) (elevenOf s)) p nan ≡ getD table p nan
+      kept c p g = laid-before table (elevenOf s) (11 * n) nan fits p g
 
   -- one more triangle of the file
   pub prepared-turn : (file : List ℕ) → Prepared file n table → s ≡ shapeFrom file (24 * n) → Prepared file (n + 1) after

@@ -1,4 +1,4 @@
--- The steps of the writer: prepared triangles, counts from them, leaks as triples of numbers, and their lines. That they come to the list of the rules is the writer's promise. Definitions only.
+-- The steps of the writer: prepared triangles, counts from them, leaks recording by recording. That they come to the list of the rules is the writer's promise. Definitions only.
 use Prim.Native.Nat.{ℕ, zero, suc, _+_, _*_, _<_}
 use mathlib.Core.Path.{_≡_}
 use mathlib.Core.Bool.{cond}
@@ -18,9 +18,8 @@ use Rattle.listing.specs.declared.Tally.{Tally}
 use Rattle.listing.specs.Turns.{upTo, each, folded}
 use Rattle.listing.specs.Pairs.{isTest, isTraining, tallied, noneYet}
 use Rattle.listing.specs.Leaks.{Leak, isLeak, leakOf}
-use Rattle.listing.specs.declared.Listed.{Listed}
-use Rattle.listing.specs.Words.{firstLine, leakLine, leakLines, listText, refusedLine}
-use Rattle.listing.specs.Listing.{Whole, refused, tooShort, answered, listOf}
+use Rattle.listing.specs.Words.{listText, refusedLine}
+use Rattle.listing.specs.Listing.{listOf}
 
 -- ---- a prepared triangle in the table, and the same from the file
 abbrev pub elevenOf : Shape → List Float
@@ -70,14 +69,7 @@ pub record Gathering (file : List ℕ) (table : List Float) : Type 0 where
   pub size : length table ≡ 30030
   pub prepared : Prepared file (trianglesOf file) table
 
--- ---- leaks as triples of numbers
-abbrev pub leakAt : List ℕ → ℕ → Leak
-leakAt found k = record { test = getD found (3 * k) 0; train = getD found (3 * k + 1) 0; pairs = getD found (3 * k + 2) 0 }
-
-unfoldable pub leaksIn : List ℕ → ℕ → List Leak
-leaksIn found zero = []
-leaksIn found (suc k) = leaksIn found k ++ (leakAt found k ∷ [])
-
+-- ---- leaks
 -- two ids and N as a leak, where N is not 0
 abbrev pub leakOn : ℕ → ℕ → ℕ → List Leak
 leakOn test train n = cond (ltb 0 n) (record { test = test; train = train; pairs = n } ∷ []) []
@@ -103,22 +95,6 @@ module _ (file : List ℕ) where
   unfolding testOf
   listTo zero = []
   listTo (suc n) = listTo n ++ testOf n
-
--- ---- the lines of the first k triples
-unfoldable pub linesIn : List ℕ → ℕ → List ℕ
-linesIn found zero = []
-linesIn found (suc k) = linesIn found k ++ leakLine (leakAt found k)
-
--- ---- the list of these leaks in the room, or refusal 7
-abbrev pub textOf : List Leak → List ℕ
-textOf ls = firstLine (length ls) ++ leakLines ls
-
-unfoldable pub wholeOf : List Leak → List ℕ → Whole
-wholeOf ls room = cond (ltb (length room) (length (textOf ls))) (refused room tooShort) (answered room (textOf ls) (length ls))
-
-pub record WrittenAs (ls : List Leak) (room : List ℕ) (result : Listed) (after : List ℕ) : Type 0 where
-  pub result-is : result ≡ wholeOf ls room .result
-  pub after-is : after ≡ wholeOf ls room .room
 
 -- ---- what is told of a file where the room is this one: the list, or how it is refused
 unfoldable pub toldOf : List ℕ → List ℕ → List ℕ

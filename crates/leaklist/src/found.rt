@@ -4,7 +4,8 @@ ghost use mathlib.Core.List.{_++_};
 ghost use Prim.Native.Nat.{_+_, _≤_, _<_};
 ghost use lib.ListN.{length};
 ghost use Rattle.layout.specs.Parts.{countOf, entryAt, tablePlace};
-ghost use Rattle.leaklist.specs.Code.{Gathering, leakOn, leaksIn, itemOf, rowTo, testOf, listTo};
+ghost use Rattle.writing.specs.Triples.{leaksIn};
+ghost use Rattle.leaklist.specs.Code.{Gathering, leakOn, itemOf, rowTo, testOf, listTo};
 use crate::tallies::tally;
 
 // One more, if n is not 0; the place behind it.

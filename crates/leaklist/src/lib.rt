@@ -2,55 +2,15 @@
 mod found;
 mod prepared;
 mod tallies;
-mod words;
 
-ghost use mathlib.Core.Path.{_≡_};
-ghost use mathlib.Core.List.{[]};
-ghost use Prim.Native.Nat.{_≤_};
-ghost use lib.ListN.{length};
 ghost use Rattle.layout.specs.Layout.{Layout};
-ghost use Rattle.layout.specs.Verdict.{said};
 ghost use Rattle.text.specs.Room.{Put};
-ghost use Rattle.listing.specs.Listing.{refused as refusedAs};
 ghost use Rattle.listing.specs.Promise.{Promise};
-ghost use Rattle.leaklist.specs.Code.{leaksIn, WrittenAs, toldOf};
+ghost use Rattle.leaklist.specs.Code.{toldOf};
 use found::gather;
 use found::no_leaks;
 use prepared::no_shapes;
 use prepared::prepare;
-use words::lines_length;
-use words::put_lines;
-
-fn refused(number: u32, place: u32) -> listing::Listed
-    ensures { λ r. ⌜ r ≡ refusedAs [] (said number place) .result ⌝ }
-{
-    listing::Listed {
-        number,
-        place,
-        length: 0,
-        leaks: 0,
-    }
-}
-
-// The list of k leaks, if the room is long enough.
-fn write(room: &mut [u8], found: &[u32], k: usize) -> listing::Listed
-    requires { ⌜ (k ≤ 4096) × (length (now found) ≡ 12288) ⌝ }
-    ensures { λ r. ⌜ WrittenAs (leaksIn (now (found .entry)) k) (now (room .entry)) r (now (room .exit)) ⌝ }
-{
-    let count = k as u32;
-    let size = 7 + text::width(count) + lines_length(found, k);
-    if room.len() < size {
-        return refused(7, 0);
-    }
-    let p = wording::put_first(room, count);
-    put_lines(room, p, found, k);
-    listing::Listed {
-        number: 0,
-        place: 0,
-        length: size,
-        leaks: count,
-    }
-}
 
 // A good file's list.
 fn listed(file: &[u8], room: &mut [u8]) -> listing::Listed
@@ -64,7 +24,7 @@ fn listed(file: &[u8], room: &mut [u8]) -> listing::Listed
     prepare(&mut table, file, at / 24);
     let mut found = no_leaks();
     let k = gather(file, &table, &mut found, at, count);
-    write(room, &found, k)
+    writing::write(room, &found, k)
 }
 
 // The leak list of a file's bytes, to the front of the room, or a refusal, with the room as it was: the file's own, or 7 where the room is shorter than the list.
@@ -73,7 +33,7 @@ pub fn leaks(file: &[u8], room: &mut [u8]) -> listing::Listed
 {
     let v = footprint::check(file);
     if v.number != 0 {
-        return refused(v.number, v.place);
+        return writing::refused(v.number, v.place);
     }
     listed(file, room)
 }

@@ -2,12 +2,12 @@
 ghost use mathlib.Core.Path.{_≡_};
 ghost use Prim.Native.Nat.{_+_, _*_, _≤_, _<_};
 ghost use lib.ListN.{length};
-ghost use lib.Seq.{sets};
+ghost use Rattle.text.specs.Room.{laid};
 ghost use Rattle.leaklist.specs.Code.{elevenOf, shapeIn, Prepared};
 
 fn put_shape(table: &mut [f64], k: usize, s: shapes::Shape)
     requires { ⌜ (k < 2730) × (11 * k + 11 ≤ length (now table)) ⌝ }
-    ensures { λ _. ⌜ now (table .exit) ≡ sets (now (table .entry)) (11 * k) (elevenOf s) ⌝ }
+    ensures { λ _. ⌜ now (table .exit) ≡ laid (now (table .entry)) (11 * k) (elevenOf s) ⌝ }
 {
     let at = 11 * k;
     table[at] = s.x0;

@@ -29,6 +29,45 @@ module _ (file : List ℕ) where
   abbrev with : ℕ → List (ℕ × ℕ)
   with i = map (λ j. (i, j)) (trainings file)
 
+  -- ---- the order
+  sorted-tests : Sorted _<_ (tests file)
+  unfolding tests
+  sorted-tests = sorted-filter _<_ testAt (upTo (countOf file)) (sorted-upTo (countOf file))
+
+  sorted-trainings : Sorted _<_ (trainings file)
+  unfolding trainings
+  sorted-trainings = sorted-filter _<_ trainingAt (upTo (countOf file)) (sorted-upTo (countOf file))
+
+  sorted-pairs : Sorted Before (recordingPairs file)
+  unfolding recordingPairs
+  sorted-pairs = sorted-each _<_ Before with (tests file) sorted-tests (λ i. sorted-map _<_ Before (λ j. (i, j)) (trainings file) (λ x y h. inr (refl, h)) sorted-trainings) across
+    where
+      across : (x y : ℕ) → x < y → (p q : ℕ × ℕ) → List·Memᴰ p (with x) → List·Memᴰ q (with y) → Before p q
+      across x y h p q m n =
+          let r = unmapped (λ j. (x, j)) (trainings file) m in
+          let s = unmapped (λ j. (y, j)) (trainings file) n in
+          inl (subst (λ k. k < q .0) (sym (ap (λ t. t .0) (r .2))) (subst (λ k. x < k) (sym (ap (λ t. t .0) (s .2))) h))
+
+  sorted-leaks : Sorted Before (leakPairs file)
+  unfolding leakPairs
+  sorted-leaks = sorted-filter Before (isLeak file) (recordingPairs file) sorted-pairs
+
+  in-order : (k l : ℕ) → k < l → l < length (leakPairs file) → Before (lineFor file k) (lineFor file l)
+  in-order k l h n = sorted-at Before (leakPairs file) (0, 0) sorted-leaks k l h n
+
+  not-before : (p q : ℕ × ℕ) → Before p q → p ≡ q → ⊥
+  not-before p q (inl h) e = let z = ap (λ t. t .0) e in omega (arith, h, z)
+  not-before p q (inr h) e = let z = ap (λ t. t .1) e in let g = h .1 in omega (arith, g, z)
+
+  once : (k l : ℕ) → k < length (leakPairs file) → l < length (leakPairs file) → lineFor file k ≡ lineFor file l → k ≡ l
+  once k l m n e = go (ltb k l) refl (ltb l k) refl
+    where
+      go : (b : Bool) → ltb k l ≡ b → (c : Bool) → ltb l k ≡ c → k ≡ l
+      go true h c g = absurd (not-before (lineFor file k) (lineFor file l) (in-order k l (ltb-true k l h) n) e)
+      go false h true g = absurd (not-before (lineFor file l) (lineFor file k) (in-order l k (ltb-true l k g) m) (sym e))
+      go false h false g = omega (arith, ltb-false k l h, ltb-false l k g)
+
+  -- ---- which pairs there are
   in-tests : {i : ℕ} → List·Memᴰ i (tests file) → (i < countOf file) × (entryAt file i .set ≡ 1)
   unfolding tests
   in-tests {i} m = let r = passed testAt (upTo (countOf file)) m in (below (countOf file) (r .0), eqb-true (entryAt file i .set) 1 (r .1))
@@ -80,44 +119,6 @@ module _ (file : List ℕ) where
       let d = decision-in file (entryAt file i) (entryAt file j) (q .0) (q .1) (q .2) (q .3) in
       let n = counted-one meets (decisions file (entryAt file i) (entryAt file j)) d (q .4) in
       kept (isLeak file) (recordingPairs file) (a-pair i j (a-test i (h .recording) (h .test)) (a-training j (h .other) (h .training))) (lt-ltb 0 (pairsMeeting file (i, j)) (subst (λ n. 0 < n) (sym (counted i j)) n))
-
-  -- ---- the order
-  sorted-tests : Sorted _<_ (tests file)
-  unfolding tests
-  sorted-tests = sorted-filter _<_ testAt (upTo (countOf file)) (sorted-upTo (countOf file))
-
-  sorted-trainings : Sorted _<_ (trainings file)
-  unfolding trainings
-  sorted-trainings = sorted-filter _<_ trainingAt (upTo (countOf file)) (sorted-upTo (countOf file))
-
-  sorted-pairs : Sorted Before (recordingPairs file)
-  unfolding recordingPairs
-  sorted-pairs = sorted-each _<_ Before with (tests file) sorted-tests (λ i. sorted-map _<_ Before (λ j. (i, j)) (trainings file) (λ x y h. inr (refl, h)) sorted-trainings) across
-    where
-      across : (x y : ℕ) → x < y → (p q : ℕ × ℕ) → List·Memᴰ p (with x) → List·Memᴰ q (with y) → Before p q
-      across x y h p q m n =
-          let r = unmapped (λ j. (x, j)) (trainings file) m in
-          let s = unmapped (λ j. (y, j)) (trainings file) n in
-          inl (subst (λ k. k < q .0) (sym (ap (λ t. t .0) (r .2))) (subst (λ k. x < k) (sym (ap (λ t. t .0) (s .2))) h))
-
-  sorted-leaks : Sorted Before (leakPairs file)
-  unfolding leakPairs
-  sorted-leaks = sorted-filter Before (isLeak file) (recordingPairs file) sorted-pairs
-
-  in-order : (k l : ℕ) → k < l → l < length (leakPairs file) → Before (lineFor file k) (lineFor file l)
-  in-order k l h n = sorted-at Before (leakPairs file) (0, 0) sorted-leaks k l h n
-
-  not-before : (p q : ℕ × ℕ) → Before p q → p ≡ q → ⊥
-  not-before p q (inl h) e = let z = ap (λ t. t .0) e in omega (arith, h, z)
-  not-before p q (inr h) e = let z = ap (λ t. t .1) e in let g = h .1 in omega (arith, g, z)
-
-  once : (k l : ℕ) → k < length (leakPairs file) → l < length (leakPairs file) → lineFor file k ≡ lineFor file l → k ≡ l
-  once k l m n e = go (ltb k l) refl (ltb l k) refl
-    where
-      go : (b : Bool) → ltb k l ≡ b → (c : Bool) → ltb l k ≡ c → k ≡ l
-      go true h c g = absurd (not-before (lineFor file k) (lineFor file l) (in-order k l (ltb-true k l h) n) e)
-      go false h true g = absurd (not-before (lineFor file l) (lineFor file k) (in-order l k (ltb-true l k g) m) (sym e))
-      go false h false g = omega (arith, ltb-false k l h, ltb-false l k g)
 
   -- ---- the lines
   pub as-many : length (leaks file) ≡ length (leakPairs file)

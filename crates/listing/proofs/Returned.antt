@@ -1,5 +1,5 @@
 -- No second answer fits, and demands 1 and 2 of the list, each read off the promise. Assumes nothing.
-use Prim.Native.Nat.{ℕ, _+_, _-_, _<_, _≤_}
+use Prim.Native.Nat.{ℕ, _<_, _≤_}
 use mathlib.Core.Path.{_≡_, refl, sym, ap, subst, _∙_}
 use mathlib.Core.Logic.{_⊎_, inl, inr}
 use mathlib.Core.Bool.{Bool, true, false, cond}
@@ -7,13 +7,14 @@ use mathlib.Core.List.{List}
 use native.Mathlib.Omega.{arith}
 use lib.Dec.{eqb, ltb}
 use borrow.Author.Tests.{eqb-true, eqb-false, lt-ltb, le-ltb, ltb-true, ltb-false}
-use lib.ListN.{length, drop, length-append, length-drop}
-use lib.Seq.{take-append-seam, drop-append-seam}
+use lib.ListN.{length}
+use Rattle.text.specs.Room.{laid, WholeOrNothing}
+use Rattle.text.proofs.Room.{whole-or-nothing, put-front}
 use Rattle.layout.specs.Verdict.{verdict, good}
 use Rattle.layout.proofs.Returned.{number-range, is-good, has-layout, file-first, not-refused}
 use Rattle.listing.specs.Leaks.{leaks}
 use Rattle.listing.specs.Words.{listText, refusedLine}
-use Rattle.listing.specs.Listing.{Whole, refused, tooShort, written, answered, listOf, outputOf}
+use Rattle.listing.specs.Listing.{Whole, refused, tooShort, answered, listOf, outputOf}
 use Rattle.listing.specs.Promise.{NoSecondAnswer, Demand1, ReturnedOne, Written, ReturnedTwo, Outputs}
 use Rattle.listing.proofs.Demand.{demand2}
 
@@ -80,13 +81,10 @@ module _ (file room : List ℕ) where
     rest = refl;
   }
 
-  length-written : (text : List ℕ) → length text ≤ length room → length (written text room) ≡ length room
-  length-written text h = length-append text (drop (length text) room) ∙ (ap (λ n. length text + n) (length-drop (length text) room) ∙ back (length text) (length room) h)
-    where
-      back : (a b : ℕ) → a ≤ b → a + (b - a) ≡ b
-      back a b h = omega (arith, h)
+  stands : length (listText file) ≤ length room → WholeOrNothing room 0 (listText file) (laid room 0 (listText file)) (length (listText file))
+  stands h = whole-or-nothing (put-front room (listText file) h)
 
-  an-answer : (z : verdict file .number ≡ 0) → length (listText file) ≤ length room → Demand1 file room (answered room (listText file) (length (leaks file)) .result) (written (listText file) room)
+  an-answer : (z : verdict file .number ≡ 0) → length (listText file) ≤ length room → Demand1 file room (answered room (listText file) (length (leaks file)) .result) (laid room 0 (listText file))
   an-answer z h = record {
     fileFirst = λ n. absurd (n z);
     tooShort = (λ e. absurd (omega (arith, e)), λ p. let g = p .1 in absurd (omega (arith, g, h)));
@@ -94,8 +92,8 @@ module _ (file room : List ℕ) where
     noPlace = λ e. refl;
     numbers = λ e. absurd (e refl);
     zeros = λ e. absurd (e refl);
-    sameLength = length-written (listText file) h;
-    rest = drop-append-seam (listText file) (drop (length (listText file)) room);
+    sameLength = stands h .sameLength;
+    rest = stands h .rest;
   }
 
   demand1 : Demand1 file room (listOf file room .result) (listOf file room .room)
@@ -116,7 +114,7 @@ module _ (file room : List ℕ) where
       go (byList z h) = rw (by-list z h) (record {
         length-is = refl;
         leaks-is = refl;
-        text = take-append-seam (listText file) (drop (length (listText file)) room);
+        text = stands h .whole (omega (arith, h)) .0;
         demand = demand2 file;
       })
 

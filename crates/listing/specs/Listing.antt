@@ -1,9 +1,10 @@
 -- 01, "The leak list": the list in lent room, refusal 7, and what the program writes. Definitions only.
 use Prim.Native.Nat.{ℕ}
 use mathlib.Core.Bool.{cond}
-use mathlib.Core.List.{List, _++_}
+use mathlib.Core.List.{List}
 use lib.Dec.{ltb}
-use lib.ListN.{length, drop}
+use lib.ListN.{length}
+use Rattle.text.specs.Room.{laid}
 use Rattle.layout.specs.declared.Verdict.{Verdict}
 use Rattle.layout.specs.Verdict.{said}
 use Rattle.layout.specs.Recordings.{unlessRefused}
@@ -24,17 +25,13 @@ refused room v = record { result = record { number = v .number; place = v .place
 abbrev pub tooShort : Verdict
 tooShort = said 7 0
 
--- a text at the front of the room; the rest stays
-abbrev pub written : List ℕ → List ℕ → List ℕ
-written text room = text ++ drop (length text) room
-
--- the list and its number of leaks: its length is told, and it stands in the room
+-- the list and its number of leaks: its length is told, and it stands at the front of the room, the rest of which stays
 abbrev pub answered : List ℕ → List ℕ → ℕ → Whole
-answered room text k = record { result = record { number = 0; place = 0; length = length text; leaks = k }; room = written text room }
+answered room text k = record { result = record { number = 0; place = 0; length = length text; leaks = k }; room = laid room 0 text }
 
 -- the file's own refusals first, then 7, then the list
 unfoldable pub listOf : List ℕ → List ℕ → Whole
-unfolding unlessRefused listText leaks
+unfolding unlessRefused listText leaks laid
 listOf file room = let text = listText file in unlessRefused file (refused room) (cond (ltb (length room) (length text)) (refused room tooShort) (answered room text (length (leaks file))))
 
 -- what the program writes: the list, or one line that says how the file is refused

@@ -1,4 +1,4 @@
--- Laws of decimals and of text that is laid in a room. Assumes nothing.
+-- Laws of decimals, and of the loops that put digits and bytes. Assumes nothing.
 use Prim.Native.Nat.{ℕ, zero, suc, _+_, _-_, _/_, _%_, _<_, _≤_}
 use mathlib.Core.Path.{_≡_, refl, ap, ap₂, sym, subst, _∙_}
 use mathlib.Core.Bool.{Bool, true, false}
@@ -7,11 +7,10 @@ use native.Mathlib.Omega.{arith}
 use native.Mathlib.Nat.{add-zero}
 use native.Mathlib.Numerals.{add-one}
 use lib.ListN.{length, getD, drop, set, length-append}
-use lib.Seq.{sets, set-comm, drop-cons, sets-eq}
-use lib.Dec.{ltb, leb}
-use borrow.Author.Tests.{ltb-true, ltb-false, lt-ltb, le-ltb, le-leb, lt-leb}
+use lib.Seq.{sets, set-comm, drop-cons}
+use lib.Dec.{ltb}
+use borrow.Author.Tests.{ltb-true, ltb-false, lt-ltb, le-ltb}
 use Rattle.text.specs.Decimal.{digit, decimalBy, decimal}
-use Rattle.text.specs.Room.{laid, behind, Put}
 use Rattle.text.specs.Code.{digits}
 
 -- ---- numbers by their tens: what holds under ten, and of a number if of its tens, holds of all
@@ -97,11 +96,6 @@ all-digits = by-tens (λ n. digits (length (decimal n)) n ≡ decimal n) small l
 pub pred-suc : {j : ℕ} → 0 < j → j ≡ suc (j - 1)
 pred-suc h = omega arith
 
--- two runs, one after the other
-pub sets-append : (vs ws l : List ℕ) (i : ℕ) → sets (sets l i vs) (i + length vs) ws ≡ sets l i (vs ++ ws)
-sets-append [] ws l i = rw add-zero
-sets-append (a ∷ vs) ws l i = let e : i + suc (length vs) ≡ suc i + length vs = omega arith in rw e (sets-append vs ws (set l i a) (suc i))
-
 -- the last of a run, stored first
 sets-last : (xs l : List ℕ) (at d : ℕ) → sets l at (xs ++ (d ∷ [])) ≡ sets (set l (at + length xs) d) at xs
 sets-last [] l at d = rw add-zero
@@ -123,28 +117,3 @@ pub copy-turn : (l src : List ℕ) (at i : ℕ) → i < length src → sets l (a
 copy-turn l src at i h =
     let e : at + suc i ≡ suc (at + i) = omega arith in
     rw (drop-cons src i 0, add-one) (rw e refl)
-
--- ---- a room
-pub put-nothing : (room text : List ℕ) (at k : ℕ) → k ≡ length text → length room < at + k → Put room at text room at
-unfolding laid behind
-put-nothing room text at k e h = record { after-is = rw no refl; next-is = rw no refl }
-  where
-    no : leb (at + length text) (length room) ≡ false
-    no = lt-leb (at + length text) (length room) (subst (λ n. length room < at + n) e h)
-
-pub put-all : (room text after : List ℕ) (at k : ℕ) → k ≡ length text → at + k ≤ length room → after ≡ sets room at text → Put room at text after (at + k)
-unfolding laid behind
-put-all room text after at k e h p = record { after-is = p ∙ (sets-eq text room at fit ∙ rw yes refl); next-is = rw (yes, e) refl }
-  where
-    fit : at + length text ≤ length room
-    fit = subst (λ n. at + n ≤ length room) e h
-
-    yes : leb (at + length text) (length room) ≡ true
-    yes = le-leb (at + length text) (length room) fit
-
--- a text that fits is a run of stores, and the next place is behind it
-pub laid-sets : {room text after : List ℕ} {at next : ℕ} → Put room at text after next → at + length text ≤ length room → (after ≡ sets room at text) × (next ≡ at + length text)
-unfolding laid behind
-laid-sets {room} {text} {after} {at} p h =
-    let yes = le-leb (at + length text) (length room) h in
-    (p .after-is ∙ (rw yes refl ∙ sym (sets-eq text room at h)), p .next-is ∙ rw yes refl)

@@ -1,3 +1,3 @@
 pub mod Laws
 pub mod Decimal
-pub mod Unique
+pub mod Room

@@ -1,15 +1,14 @@
-// Decimal numbers and text in a lent room.
+// Decimal numbers and bytes in a lent room, measured before they are put.
 ghost use mathlib.Core.Path.{_≡_};
 ghost use Prim.Native.Nat.{_+_, _%_, _≤_, _<_};
 ghost use lib.ListN.{length};
-ghost use lib.Seq.{sets};
 ghost use Rattle.text.specs.Decimal.{digit as digitOf, decimal};
-ghost use Rattle.text.specs.Room.{Put};
+ghost use Rattle.text.specs.Room.{Measured, Put};
 ghost use Rattle.text.specs.Code.{digits};
 
 // How many digits n has.
 pub fn width(n: u32) -> usize
-    ensures { λ r. ⌜ (r ≡ length (decimal n)) × (r ≤ n + 1) ⌝ }
+    ensures { λ r. ⌜ Measured (decimal n) r × (r ≤ n + 1) ⌝ }
 {
     let mut k: usize = 1;
     let mut m = n;
@@ -26,10 +25,10 @@ fn digit(n: u32) -> u8
     48 + (n % 10) as u8
 }
 
-// The last k digits of n, from the place on.
-fn put_digits(room: &mut [u8], at: usize, k: usize, n: u32)
+// The last k digits of n where there is room for them, from a place on; the place behind them.
+fn put_digits(room: &mut [u8], at: usize, k: usize, n: u32) -> usize
     requires { ⌜ at + k ≤ length (now room) ⌝ }
-    ensures { λ _. ⌜ now (room .exit) ≡ sets (now (room .entry)) at (digits k n) ⌝ }
+    ensures { λ r. ⌜ Put (now (room .entry)) at (digits k n) (now (room .exit)) r ⌝ }
 {
     let mut i = k;
     let mut m = n;
@@ -38,17 +37,20 @@ fn put_digits(room: &mut [u8], at: usize, k: usize, n: u32)
         room[at + i] = digit(m);
         m = m / 10;
     }
+    at + k
 }
 
-fn copy(room: &mut [u8], at: usize, bytes: &[u8])
+// The bytes where there is room for them, likewise.
+fn copy(room: &mut [u8], at: usize, bytes: &[u8]) -> usize
     requires { ⌜ at + length (now bytes) ≤ length (now room) ⌝ }
-    ensures { λ _. ⌜ now (room .exit) ≡ sets (now (room .entry)) at (now (bytes .entry)) ⌝ }
+    ensures { λ r. ⌜ Put (now (room .entry)) at (now (bytes .entry)) (now (room .exit)) r ⌝ }
 {
     let mut i: usize = 0;
     while i < bytes.len() {
         room[at + i] = bytes[i];
         i = i + 1;
     }
+    at + i
 }
 
 // Puts n in decimal into the room from a place on and hands back the place behind it. Where it does not fit, nothing is put, and the place stays.
@@ -63,8 +65,7 @@ pub fn put_decimal(room: &mut [u8], at: usize, n: u32) -> usize
     if most - k < at {
         return at;
     }
-    put_digits(room, at, k, n);
-    at + k
+    put_digits(room, at, k, n)
 }
 
 // The same of bytes.
@@ -79,6 +80,5 @@ pub fn put_bytes(room: &mut [u8], at: usize, bytes: &[u8]) -> usize
     if most - k < at {
         return at;
     }
-    copy(room, at, bytes);
-    at + k
+    copy(room, at, bytes)
 }

@@ -1,18 +1,17 @@
 // The lines of lists and refusals, each put into a room whole or not at all.
-ghost use mathlib.Core.Path.{_≡_};
 ghost use mathlib.Core.List.{_++_};
 ghost use Prim.Native.Nat.{_+_, _≤_};
 ghost use lib.ListN.{length};
 ghost use Rattle.layout.specs.Verdict.{said};
 ghost use Rattle.text.specs.Decimal.{decimal};
-ghost use Rattle.text.specs.Room.{Put};
+ghost use Rattle.text.specs.Room.{Measured, Put};
 ghost use Rattle.listing.specs.Words.{firstLine, refusedLine};
-ghost use Rattle.wording.specs.Lines.{lineOf, Laid};
+ghost use Rattle.wording.specs.Lines.{lineOf};
 
-// A word and a number, from a place on; the place behind them.
+// A word and a number where there is room for them, from a place on; the place behind them.
 fn put_field(room: &mut [u8], at: usize, word: &[u8], n: u32) -> usize
     requires { ⌜ at + (length (now word) + length (decimal n)) ≤ length (now room) ⌝ }
-    ensures { λ r. ⌜ Laid (now (room .entry)) at (now (word .entry) ++ decimal n) (now (room .exit)) r ⌝ }
+    ensures { λ r. ⌜ Put (now (room .entry)) at (now (word .entry) ++ decimal n) (now (room .exit)) r ⌝ }
 {
     let p = text::put_bytes(room, at, word);
     text::put_decimal(room, p, n)
@@ -20,15 +19,15 @@ fn put_field(room: &mut [u8], at: usize, word: &[u8], n: u32) -> usize
 
 // The length of a leak line.
 pub fn line_length(test: u32, train: u32, n: u32) -> usize
-    ensures { λ r. ⌜ (r ≡ length (lineOf test train n)) × (r ≤ 20000000000) ⌝ }
+    ensures { λ r. ⌜ Measured (lineOf test train n) r × (r ≤ 20000000000) ⌝ }
 {
     20 + text::width(test) + text::width(train) + text::width(n)
 }
 
-// A leak line where there is room for it.
+// A leak line where there is room for it, likewise.
 fn put_line_in(room: &mut [u8], at: usize, test: u32, train: u32, n: u32) -> usize
     requires { ⌜ at + length (lineOf test train n) ≤ length (now room) ⌝ }
-    ensures { λ r. ⌜ Laid (now (room .entry)) at (lineOf test train n) (now (room .exit)) r ⌝ }
+    ensures { λ r. ⌜ Put (now (room .entry)) at (lineOf test train n) (now (room .exit)) r ⌝ }
 {
     let p = put_field(room, at, b"test ", test);
     let q = put_field(room, p, b" train ", train);
@@ -51,11 +50,18 @@ pub fn put_line(room: &mut [u8], at: usize, test: u32, train: u32, n: u32) -> us
     put_line_in(room, at, test, train, n)
 }
 
-// The first line of a list of k leaks, at the front, likewise.
+// The length of the first line of a list of k leaks.
+pub fn first_length(k: u32) -> usize
+    ensures { λ r. ⌜ Measured (firstLine k) r × (r ≤ k + 8) ⌝ }
+{
+    7 + text::width(k)
+}
+
+// That line, at the front of the room, and its length. Where it does not fit, nothing is put, and the length is 0.
 pub fn put_first(room: &mut [u8], k: u32) -> usize
     ensures { λ r. ⌜ Put (now (room .entry)) 0 (firstLine k) (now (room .exit)) r ⌝ }
 {
-    let size = 7 + text::width(k);
+    let size = first_length(k);
     if room.len() < size {
         return 0;
     }

@@ -67,7 +67,7 @@ same-length c = search needs
 returns : tie.Need-returns
 returns c = let g = c .before .before .before .before .before .before .before .before .before .before .before .before .before .before .before .before .before .before .args in
     let k = c .before .before .before .before .before .before .gather .ensures in
-    keeps (now (g .file)) (now (g .room)) _ (c .before .before .before .before .before .before .before .before .before .before .before .before .before .before .before .before .before .before .pre) (k .0 ∙ gathered (now (g .file))) (c .before .before .write .ensures)
+    keeps (now (g .file)) (now (g .room)) _ _ (c .before .before .before .before .before .before .before .before .before .before .before .before .before .before .before .before .before .before .pre) (k .0 ∙ gathered (now (g .file))) (c .before .before .write .ensures) (k .1) (search needs)
 
 pub listed-spec : {M : Type 1} → statement M
 listed-spec =

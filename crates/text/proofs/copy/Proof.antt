@@ -8,6 +8,7 @@ use mathlib.Core.Path.{_≡_, refl, sym, _∙_}
 use native.Mathlib.Nat.{add-zero}
 use native.Mathlib.Omega.{arith}
 use Rattle.text.proofs.Laws.{copy-turn}
+use Rattle.text.proofs.Room.{put-all}
 use Rattle.text.proofs.copy.Statement.{statement}
 use Rattle.text.proofs.copy.Tie as tie
 
@@ -39,14 +40,17 @@ loop-again : tie.Need-loop-again Inv-loop μ-loop
 loop-again c = let l = c .before .before .loop in
     (omega arith, simp length-set (omega (arith, l .inv .1)), sym (copy-turn _ _ _ _ (c .before .loop-test .taken)) ∙ l .inv .2)
 
+add-result : tie.Need-add-result Inv-loop μ-loop
+add-result c = search needs
+
 same-length : tie.Need-same-length Inv-loop μ-loop
 same-length c = c .before .loop .inv .1
 
 returns : tie.Need-returns Inv-loop μ-loop
 returns c = let l = c .before .loop in
-    let a = c .before .before .args in
-    let z : l .i ≡ length (now (a .bytes)) = omega arith in
-    rw (z, drop-length) at (l .inv .2)
+    let g = c .before .before .args in
+    let z : l .i ≡ length (now (g .bytes)) = omega arith in
+    put-all (now (g .room)) (now (g .bytes)) (g .at) (l .i) z (omega (arith, z, c .before .before .pre)) (rw (z, drop-length) at (l .inv .2))
 
 pub copy-spec : {M : Type 1} → statement M
 copy-spec =
@@ -61,5 +65,6 @@ copy-spec =
     add-i
     loop-less
     loop-again
+    add-result
     same-length
     returns)

@@ -3,7 +3,7 @@ use borrow.Author.Needs.{needs}
 use denote.Ref.{now}
 use mathlib.Core.Path.{refl}
 use native.Mathlib.Omega.{arith}
-use Rattle.text.proofs.Laws.{put-nothing, put-all}
+use Rattle.text.proofs.Room.{put-nothing}
 use Rattle.text.proofs.put_bytes.Statement.{statement}
 use Rattle.text.proofs.put_bytes.Tie as tie
 
@@ -16,15 +16,12 @@ returns-2 c = let g = c .before .before .before .before .args in put-nothing (no
 copy-requires : tie.Need-copy-requires
 copy-requires c κs = search needs
 
-add-result : tie.Need-add-result
-add-result c = search needs
-
 same-length : tie.Need-same-length
 same-length c = search needs
 
 returns-3 : tie.Need-returns-3
-returns-3 c = let g = c .before .before .before .before .before .before .before .before .args in put-all (now (g .room)) (now (g .bytes)) _ (g .at) _ refl (omega (arith, c .before .before .before .before .before .if1 .left, c .before .before .before .before .if2 .left)) (c .before .before .copy .ensures)
+returns-3 c = search needs
 
 pub put-bytes-spec : {M : Type 1} → statement M
 put-bytes-spec =
-    tie.close (tie.spec returns returns-2 copy-requires add-result same-length returns-3)
+    tie.close (tie.spec returns returns-2 copy-requires same-length returns-3)

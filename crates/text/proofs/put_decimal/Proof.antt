@@ -1,10 +1,10 @@
 -- What does not fit is not put; what fits is laid digit by digit.
 use borrow.Author.Needs.{needs}
 use denote.Ref.{now}
-use lib.Seq.{sets}
 use mathlib.Core.Path.{ap, _∙_}
 use native.Mathlib.Omega.{arith}
-use Rattle.text.proofs.Laws.{all-digits, put-nothing, put-all}
+use Rattle.text.proofs.Laws.{all-digits}
+use Rattle.text.proofs.Room.{put-nothing, put-as}
 use Rattle.text.specs.Code.{digits}
 use Rattle.text.specs.Decimal.{decimal}
 use Rattle.text.proofs.put_decimal.Statement.{statement}
@@ -22,25 +22,12 @@ returns-2 c = let g = c .before .before .before .before .args in put-nothing (no
 put-digits-requires : tie.Need-put-digits-requires
 put-digits-requires c κs = search needs
 
-add-result : tie.Need-add-result
-add-result c = search needs
-
 same-length : tie.Need-same-length
 same-length c = search needs
 
 returns-3 : tie.Need-returns-3
-returns-3 c = let g = c .before .before .before .before .before .before .before .before .args in
-    let w = c .before .before .before .before .before .before .width .ensures .0 in
-    put-all (now (g .room)) (decimal (g .n)) _ (g .at) _ w (omega (arith, c .before .before .before .before .before .if1 .left, c .before .before .before .before .if2 .left)) (c .before .before .put-digits .ensures ∙ ap (sets (now (g .room)) (g .at)) (ap (λ k. digits k (g .n)) w ∙ all-digits (g .n)))
+returns-3 c = let n = c .before .before .before .before .before .before .before .before .args .n in put-as (ap (λ k. digits k n) (c .before .before .before .before .before .before .width .ensures .0) ∙ all-digits n) (c .before .before .put-digits .ensures)
 
 pub put-decimal-spec : {M : Type 1} → statement M
 put-decimal-spec =
-    tie.close
-    (tie.spec
-    width-requires
-    returns
-    returns-2
-    put-digits-requires
-    add-result
-    same-length
-    returns-3)
+    tie.close (tie.spec width-requires returns returns-2 put-digits-requires same-length returns-3)

@@ -1,11 +1,13 @@
 -- From the last digit to the first, what is left to put gives the room that is to be.
 use Prim.Native.Nat.{_≤_}
 use borrow.Author.Needs.{needs}
+use denote.Ref.{now}
 use lib.ListN.{length, length-set}
 use lib.Seq.{sets}
 use mathlib.Core.Path.{_≡_, refl, sym, _∙_}
 use native.Mathlib.Omega.{arith}
-use Rattle.text.proofs.Laws.{digits-turn, digits-none}
+use Rattle.text.proofs.Laws.{digits-turn, digits-none, digits-length}
+use Rattle.text.proofs.Room.{put-all}
 use Rattle.text.specs.Code.{digits}
 use Rattle.text.proofs.put_digits.Statement.{statement}
 use Rattle.text.proofs.put_digits.Tie as tie
@@ -38,11 +40,17 @@ loop-again : tie.Need-loop-again Inv-loop μ-loop
 loop-again c = let l = c .before .before .loop in
     (omega arith, simp length-set (omega (arith, l .inv .1)), sym (digits-turn _ _ _ _ _ (c .before .loop-test .taken) (c .digit .ensures)) ∙ l .inv .2)
 
+add-result : tie.Need-add-result Inv-loop μ-loop
+add-result c = search needs
+
 same-length : tie.Need-same-length Inv-loop μ-loop
 same-length c = c .before .loop .inv .1
 
 returns : tie.Need-returns Inv-loop μ-loop
-returns c = let l = c .before .loop in let z : l .i ≡ 0 = omega arith in rw (z, digits-none) at (l .inv .2)
+returns c = let l = c .before .loop in
+    let g = c .before .before .before .args in
+    let z : l .i ≡ 0 = omega arith in
+    put-all (now (g .room)) (digits (g .k) (g .n)) (g .at) (g .k) (sym (digits-length (g .k) (g .n))) (c .before .before .before .pre) (rw (z, digits-none) at (l .inv .2))
 
 pub put-digits-spec : {M : Type 1} → statement M
 put-digits-spec =
@@ -57,5 +65,6 @@ put-digits-spec =
     slice-write-room
     loop-less
     loop-again
+    add-result
     same-length
     returns)

@@ -1,7 +1,6 @@
 -- A word, then a number behind it.
 use borrow.Author.Needs.{needs}
-use denote.Ref.{now}
-use Rattle.wording.proofs.Lines.{field-laid}
+use Rattle.text.proofs.Room.{put-two}
 use Rattle.wording.proofs.put_field.Statement.{statement}
 use Rattle.wording.proofs.put_field.Tie as tie
 
@@ -15,7 +14,7 @@ same-length : tie.Need-same-length
 same-length c = search needs
 
 returns : tie.Need-returns
-returns c = let g = c .before .before .before .before .before .before .before .before .before .before .args in field-laid (g .at) (now (g .word)) (g .n) (c .before .before .before .before .before .before .before .before .before .before .pre) (c .before .before .before .before .before .before .put-bytes .ensures) (c .before .before .put-decimal .ensures)
+returns c = put-two (c .before .before .before .before .before .before .put-bytes .ensures) (c .before .before .put-decimal .ensures) (c .before .before .before .before .before .before .before .before .before .before .pre)
 
 pub put-field-spec : {M : Type 1} → statement M
 put-field-spec = tie.close (tie.spec put-bytes-requires put-decimal-requires same-length returns)

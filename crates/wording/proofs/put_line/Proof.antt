@@ -1,9 +1,8 @@
 -- Measured first, then put whole.
 use denote.Ref.{now}
 use native.Mathlib.Omega.{arith}
-use Rattle.text.proofs.Laws.{put-nothing}
+use Rattle.text.proofs.Room.{put-nothing}
 use Rattle.wording.specs.Lines.{lineOf}
-use Rattle.wording.proofs.Lines.{put-laid}
 use borrow.Author.Needs.{needs}
 use Rattle.wording.proofs.put_line.Statement.{statement}
 use Rattle.wording.proofs.put_line.Tie as tie
@@ -24,7 +23,7 @@ same-length : tie.Need-same-length
 same-length c = search needs
 
 returns-3 : tie.Need-returns-3
-returns-3 c = put-laid (omega (arith, c .before .before .before .before .before .if1 .left, c .before .before .before .before .if2 .left, c .before .before .before .before .before .before .line-length .ensures .0)) (c .before .before .put-line-in .ensures)
+returns-3 c = search needs
 
 pub put-line-spec : {M : Type 1} → statement M
 put-line-spec =

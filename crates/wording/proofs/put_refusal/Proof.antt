@@ -4,9 +4,9 @@ use borrow.Author.Needs.{needs}
 use denote.Ref.{now}
 use native.Mathlib.Omega.{arith}
 use Rattle.layout.specs.Verdict.{said}
-use Rattle.wording.proofs.Lines.{refused-length, refused-is, put-laid, laid-put, laid-two, laid-as, laid-length}
+use Rattle.wording.proofs.Lines.{refused-length, refused-is}
 use Rattle.listing.specs.Words.{refusedLine}
-use Rattle.text.proofs.Laws.{put-nothing}
+use Rattle.text.proofs.Room.{put-nothing, put-next, put-length, put-three, put-as}
 use Rattle.wording.proofs.put_refusal.Statement.{statement}
 use Rattle.wording.proofs.put_refusal.Tie as tie
 
@@ -35,7 +35,11 @@ slice-aggregate-put-field-2 : tie.Need-slice-aggregate-put-field-2
 slice-aggregate-put-field-2 c = search needs
 
 put-field-requires-2 : tie.Need-put-field-requires-2
-put-field-requires-2 c κs = let a = c .before .before .before .before .put-field .ensures in omega (arith, c .before .before .before .before .before .before .before .if1 .left, c .before .before .before .before .before .before .before .before .before .width .ensures .0, c .before .before .before .before .before .before .before .before .width2 .ensures .0, laid-length a, a .next-is)
+put-field-requires-2 c κs = let h = c .before .before .before .before .before .before .before .if1 .left in
+    let w = c .before .before .before .before .before .before .before .before .before .width .ensures .0 in
+    let v = c .before .before .before .before .before .before .before .before .width2 .ensures .0 in
+    let a = c .before .before .before .before .put-field .ensures in
+    omega (arith, h, w, v, put-length a, put-next a (omega (arith, h, w, v)))
 
 slice-aggregate-put-bytes : tie.Need-slice-aggregate-put-bytes
 slice-aggregate-put-bytes c = search needs
@@ -48,13 +52,7 @@ same-length c = search needs
 
 returns-2 : tie.Need-returns-2
 returns-2 c = let g = c .before .before .before .before .before .before .before .before .before .before .before .before .before .before .before .before .before .before .before .args in
-    let a = c .before .before .before .before .before .before .before .before .before .before .before .before .put-field .ensures in
-    let b = c .before .before .before .before .before .before .before .put-field2 .ensures in
-    let w = c .before .before .before .before .before .before .before .before .before .before .before .before .before .before .before .before .before .width .ensures .0 in
-    let v = c .before .before .before .before .before .before .before .before .before .before .before .before .before .before .before .before .width2 .ensures .0 in
-    let n = refused-length (g .number) (g .place) in
-    let e = laid-put (c .before .before .put-bytes .ensures) (omega (arith, c .before .before .before .before .before .before .before .before .before .before .before .before .before .before .before .if1 .left, w, v, laid-length a, a .next-is, laid-length b, b .next-is)) in
-    put-laid (omega (arith, c .before .before .before .before .before .before .before .before .before .before .before .before .before .before .before .if1 .left, w, v, n)) (laid-as (refused-is (g .number) (g .place)) (laid-two (laid-two a b) e))
+    put-as (refused-is (g .number) (g .place)) (put-three (c .before .before .before .before .before .before .before .before .before .before .before .before .put-field .ensures) (c .before .before .before .before .before .before .before .put-field2 .ensures) (c .before .before .put-bytes .ensures) (omega (arith, c .before .before .before .before .before .before .before .before .before .before .before .before .before .before .before .if1 .left, c .before .before .before .before .before .before .before .before .before .before .before .before .before .before .before .before .before .width .ensures .0, c .before .before .before .before .before .before .before .before .before .before .before .before .before .before .before .before .width2 .ensures .0)))
 
 pub put-refusal-spec : {M : Type 1} → statement M
 put-refusal-spec =

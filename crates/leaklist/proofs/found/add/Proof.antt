@@ -4,7 +4,7 @@ use denote.Ref.{now}
 use lib.ListN.{length-set}
 use mathlib.Core.Path.{refl}
 use native.Mathlib.Omega.{arith}
-use Rattle.leaklist.proofs.Lines.{added, not-added}
+use Rattle.leaklist.proofs.Triples.{added, not-added}
 use Rattle.leaklist.proofs.found.add.Statement.{statement}
 use Rattle.leaklist.proofs.found.add.Tie as tie
 

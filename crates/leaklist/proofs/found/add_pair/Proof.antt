@@ -6,7 +6,7 @@ use mathlib.Core.List.{_++_}
 use mathlib.Core.Path.{ap, _∙_}
 use native.Mathlib.Omega.{arith}
 use Rattle.leaklist.proofs.Gathered.{entry-is, no-item, an-item, with-nothing, tally-fits, count-by}
-use Rattle.leaklist.specs.Code.{leaksIn}
+use Rattle.writing.specs.Triples.{leaksIn}
 use Rattle.leaklist.proofs.found.add_pair.Statement.{statement}
 use Rattle.leaklist.proofs.found.add_pair.Tie as tie
 

@@ -7,7 +7,8 @@ use mathlib.Core.List.{_++_}
 use mathlib.Core.Path.{_≡_, sym, ap, _∙_}
 use native.Mathlib.Omega.{arith}
 use Rattle.leaklist.proofs.Gathered.{row-none, row-turn}
-use Rattle.leaklist.specs.Code.{leaksIn, rowTo}
+use Rattle.writing.specs.Triples.{leaksIn}
+use Rattle.leaklist.specs.Code.{rowTo}
 use Rattle.leaklist.proofs.found.add_row.Statement.{statement}
 use Rattle.leaklist.proofs.found.add_row.Tie as tie
 

@@ -4,7 +4,7 @@ use borrow.Author.Needs.{needs}
 use denote.Ref.{now}
 use native.Mathlib.Omega.{arith}
 use Rattle.leaklist.proofs.Gathered.{entry-is, with-nothing, no-test, a-test}
-use Rattle.leaklist.specs.Code.{leaksIn}
+use Rattle.writing.specs.Triples.{leaksIn}
 use Rattle.leaklist.proofs.found.add_test.Statement.{statement}
 use Rattle.leaklist.proofs.found.add_test.Tie as tie
 

@@ -6,7 +6,8 @@ use lib.ListN.{length}
 use mathlib.Core.Path.{_≡_, sym, ap, _∙_}
 use native.Mathlib.Omega.{arith}
 use Rattle.leaklist.proofs.Gathered.{list-none, list-turn}
-use Rattle.leaklist.specs.Code.{leaksIn, listTo}
+use Rattle.writing.specs.Triples.{leaksIn}
+use Rattle.leaklist.specs.Code.{listTo}
 use Rattle.leaklist.proofs.found.gather.Statement.{statement}
 use Rattle.leaklist.proofs.found.gather.Tie as tie
 

@@ -3,9 +3,9 @@ use Prim.Native.Nat.{_≤_, _+_, _-_, _*_}
 use borrow.Author.Needs.{needs}
 use denote.Ref.{now}
 use lib.ListN.{length}
-use lib.Seq.{length-sets}
 use mathlib.Core.Path.{_≡_, refl, ap, _∙_}
 use native.Mathlib.Omega.{arith}
+use Rattle.text.proofs.Room.{laid-length}
 use Rattle.leaklist.proofs.Table.{prepared-turn, shape-read, none-prepared, prepared-as, all-prepared}
 use Rattle.leaklist.specs.Code.{Prepared, elevenOf}
 use Rattle.leaklist.proofs.prepared.prepare.Statement.{statement}
@@ -73,7 +73,7 @@ loop-again c = let l = c .before .before .before .before .before .before .before
     let g = c .before .before .before .before .before .before .before .before .before .before .before .before .before .before .before .args in
     let s = shape-read (now (g .file)) (24 * l .k) (c .before .before .before .before .before .before .before .before .before .before .f64-at .ensures) (c .before .before .before .before .before .before .before .before .before .f64-at2 .ensures) (c .before .before .before .before .before .before .before .before .f64-at3 .ensures) (c .before .before .before .before .before .before .before .f64-at4 .ensures) (c .before .before .before .before .before .before .f64-at5 .ensures) (c .before .before .before .before .before .f64-at6 .ensures) (c .before .before .before .before .shape-of .ensures) in
     let e = c .before .before .put-shape .ensures in
-    (omega (arith, c .before .before .before .before .before .before .before .before .before .before .before .loop-test .taken), ap length e ∙ (length-sets (l .table) (11 * l .k) (elevenOf (c .before .before .before .before .shape-of .result)) ∙ l .inv .1), prepared-as (now (g .file)) (l .k + 1) e (prepared-turn (l .table) (l .k) _ (omega (arith, l .inv .1, c .before .before .before .before .before .before .before .before .before .before .before .loop-test .taken, c .before .before .before .before .before .before .before .before .before .before .before .before .before .before .before .pre .1)) (now (g .file)) (l .inv .2) s))
+    (omega (arith, c .before .before .before .before .before .before .before .before .before .before .before .loop-test .taken), ap length e ∙ (laid-length (l .table) (elevenOf (c .before .before .before .before .shape-of .result)) (11 * l .k) ∙ l .inv .1), prepared-as (now (g .file)) (l .k + 1) e (prepared-turn (l .table) (l .k) _ (omega (arith, l .inv .1, c .before .before .before .before .before .before .before .before .before .before .before .loop-test .taken, c .before .before .before .before .before .before .before .before .before .before .before .before .before .before .before .pre .1)) (now (g .file)) (l .inv .2) s))
 
 same-length : tie.Need-same-length Inv-loop μ-loop
 same-length c = c .before .loop .inv .1

@@ -1,11 +1,11 @@
--- Eleven stores are a run of stores.
+-- Eleven stores lay eleven values.
 use Prim.Native.Nat.{_*_}
 use borrow.Author.Needs.{needs}
 use denote.Ref.{now}
 use lib.ListN.{length-set}
 use mathlib.Core.Path.{refl}
 use native.Mathlib.Omega.{arith}
-use Rattle.leaklist.proofs.Table.{eleven-sets}
+use Rattle.leaklist.proofs.Table.{eleven-laid}
 use Rattle.leaklist.proofs.prepared.put_shape.Statement.{statement}
 use Rattle.leaklist.proofs.prepared.put_shape.Tie as tie
 
@@ -112,7 +112,7 @@ same-length : tie.Need-same-length
 same-length c = simp length-set refl
 
 returns : tie.Need-returns
-returns c = let g = c .args in eleven-sets (now (g .table)) (11 * g .k) (g .s)
+returns c = let g = c .args in eleven-laid (now (g .table)) (11 * g .k) (g .s) (c .pre .1)
 
 pub put-shape-spec : {M : Type 1} → statement M
 put-shape-spec =

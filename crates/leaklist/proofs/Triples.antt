@@ -1,21 +1,16 @@
--- Leaks as triples of numbers, their lines, and texts laid one behind the other. Assumes nothing.
+-- One more leak, stored as three numbers behind those before it; none, where nothing meets. Assumes nothing.
 use Prim.Native.Nat.{ℕ, zero, suc, _+_, _*_, _<_, _≤_}
 use mathlib.Core.Path.{_≡_, refl, sym, ap, ap₂, _∙_}
-use mathlib.Core.Bool.{Bool, true, false}
 use mathlib.Core.List.{List, [], _∷_, _++_, append-nil}
 use native.Mathlib.Omega.{arith}
 use native.Mathlib.Numerals.{add-one}
-use lib.Dec.{ltb}
-use borrow.Author.Tests.{ltb-true, ltb-false, lt-ltb, le-ltb}
-use lib.ListN.{length, getD, set, length-append, length-set}
+use borrow.Author.Tests.{lt-ltb, le-ltb}
+use lib.ListN.{length, getD, set, length-set}
 use lib.Seq.{getD-set-same, getD-set-other}
 use Rattle.listing.specs.Leaks.{Leak}
-use Rattle.listing.specs.Words.{leakLine}
-use Rattle.wording.specs.Lines.{Laid}
-use Rattle.wording.proofs.Lines.{laid-length, laid-two, laid-as}
-use Rattle.leaklist.specs.Code.{leakAt, leaksIn, leakOn, linesIn}
+use Rattle.writing.specs.Triples.{leakAt, leaksIn}
+use Rattle.leaklist.specs.Code.{leakOn}
 
--- ---- triples
 leakBy : ℕ → ℕ → ℕ → Leak
 leakBy t r n = record { test = t; train = r; pairs = n }
 
@@ -79,47 +74,3 @@ added l k t r n fits some =
 
 pub not-added : (l : List ℕ) (k t r n : ℕ) → n ≡ 0 → leaksIn l k ≡ leaksIn l k ++ leakOn t r n
 not-added l k t r n z = sym (ap (λ x. leaksIn l k ++ x) (rw (le-ltb 0 n (omega (arith, z))) refl) ∙ append-nil (leaksIn l k))
-
--- ---- lines
-lines-suc : (l : List ℕ) (c : ℕ) → linesIn l (c + 1) ≡ linesIn l c ++ leakLine (leakAt l c)
-unfolding linesIn
-lines-suc l c = ap (linesIn l) (add-one c)
-
-pub lines-none : (l : List ℕ) → linesIn l 0 ≡ []
-unfolding linesIn
-lines-none l = refl
-
-pub lines-turn : (l : List ℕ) (c : ℕ) {sum more : ℕ} → sum ≡ length (linesIn l c) → more ≡ length (leakLine (leakAt l c)) → sum + more ≡ length (linesIn l (c + 1))
-lines-turn l c p q = ap₂ _+_ p q ∙ (sym (length-append (linesIn l c) (leakLine (leakAt l c))) ∙ sym (ap length (lines-suc l c)))
-
--- the lines so far are no longer than all
-pub lines-grow : (l : List ℕ) (c k : ℕ) → c ≤ k → length (linesIn l c) ≤ length (linesIn l k)
-lines-grow l c zero h = ap-le (omega (arith, h))
-  where
-    ap-le : c ≡ 0 → length (linesIn l c) ≤ length (linesIn l 0)
-    ap-le e = rw e (omega arith)
-lines-grow l c (suc k) h = go (lines-grow l c k) (ltb c (suc k)) refl
-  where
-    last : length (linesIn l (suc k)) ≡ length (linesIn l k) + length (leakLine (leakAt l k))
-    last = ap (λ m. length (linesIn l m)) (sym (add-one k)) ∙ (ap length (lines-suc l k) ∙ length-append (linesIn l k) (leakLine (leakAt l k)))
-
-    all : c ≡ suc k → length (linesIn l c) ≤ length (linesIn l (suc k))
-    all e = rw e (omega arith)
-
-    go : (c ≤ k → length (linesIn l c) ≤ length (linesIn l k)) → (b : Bool) → ltb c (suc k) ≡ b → length (linesIn l c) ≤ length (linesIn l (suc k))
-    go f true e = let h = f (omega (arith, ltb-true c (suc k) e)) in omega (arith, h, last)
-    go f false e = all (omega (arith, h, ltb-false c (suc k) e))
-
--- nothing laid yet, and one more line
-pub laid-none : (l room : List ℕ) (at : ℕ) → Laid room at (linesIn l 0) room at
-laid-none l room at = laid-as (sym (lines-none l)) (record { after-is = refl; next-is = omega arith })
-
-pub laid-turn : (l : List ℕ) (c : ℕ) {room mid after : List ℕ} {at p q : ℕ} → Laid room at (linesIn l c) mid p → Laid mid p (leakLine (leakAt l c)) after q → Laid room at (linesIn l (c + 1)) after q
-laid-turn l c a b = laid-as (sym (lines-suc l c)) (laid-two a b)
-
--- line c of k fits behind those before it
-pub line-fits : (l : List ℕ) (c k : ℕ) {room mid : List ℕ} {at to : ℕ} → Laid room at (linesIn l c) mid to → c < k → at + length (linesIn l k) ≤ length room → to + length (leakLine (leakAt l c)) ≤ length mid
-line-fits l c k p h fits =
-    let grow = lines-grow l (c + 1) k (omega (arith, h)) in
-    let next = lines-turn l c refl refl in
-    omega (arith, fits, grow, next, laid-length p, p .next-is)

@@ -4,21 +4,21 @@ use borrow.Author.Needs.{needs}
 use denote.Ref.{now}
 use mathlib.Core.Path.{_≡_, ap}
 use native.Mathlib.Omega.{arith}
-use Rattle.wording.proofs.Lines.{laid-put, laid-length, laid-as}
-use Rattle.leaklist.proofs.Lines.{laid-none, laid-turn, line-fits}
-use Rattle.wording.specs.Lines.{Laid}
-use Rattle.leaklist.specs.Code.{linesIn}
-use Rattle.leaklist.proofs.words.put_lines.Statement.{statement}
-use Rattle.leaklist.proofs.words.put_lines.Tie as tie
+use Rattle.text.specs.Room.{Put}
+use Rattle.text.proofs.Room.{put-length, put-as}
+use Rattle.writing.proofs.Lines.{put-no-line, put-line-more}
+use Rattle.writing.specs.Triples.{linesIn}
+use Rattle.writing.proofs.put_lines.Statement.{statement}
+use Rattle.writing.proofs.put_lines.Tie as tie
 
 abbrev Inv-loop : tie.InvT-loop
-Inv-loop room₀ at found k to₀ c₀ room to c = (c ≤ k) × Laid room₀ at (linesIn found c) room to
+Inv-loop room₀ at found k to₀ done₀ room to done = Put room₀ at (linesIn found done) room to × (done ≤ k)
 
 abbrev μ-loop : tie.MeasureT-loop
-μ-loop room₀ at found k to₀ c₀ room to c = k - c
+μ-loop room₀ at found k to₀ done₀ room to done = k - done
 
 loop-holds : tie.Need-loop-holds Inv-loop μ-loop
-loop-holds c = let g = c .before .before .args in (omega arith, laid-none (now (g .found)) (now (g .room)) (g .at))
+loop-holds c = let g = c .before .before .args in (put-no-line (now (g .found)) (now (g .room)) (g .at), omega arith)
 
 mul-p : tie.Need-mul-p Inv-loop μ-loop
 mul-p c = search needs
@@ -50,8 +50,8 @@ shared-slice-read-put-line-3 c = search needs
 put-line-requires : tie.Need-put-line-requires Inv-loop μ-loop
 put-line-requires c κs = search needs
 
-add-c : tie.Need-add-c Inv-loop μ-loop
-add-c c = search needs
+add-done : tie.Need-add-done Inv-loop μ-loop
+add-done c = search needs
 
 loop-less : tie.Need-loop-less Inv-loop μ-loop
 loop-less c = search needs
@@ -60,17 +60,16 @@ loop-again : tie.Need-loop-again Inv-loop μ-loop
 loop-again c = let l = c .before .before .before .before .before .before .before .before .loop in
     let g = c .before .before .before .before .before .before .before .before .before .before .before .args in
     let t = c .before .before .before .before .before .before .before .loop-test .taken in
-    let fits = line-fits (now (g .found)) (l .c) (g .k) (l .inv .1) t (c .before .before .before .before .before .before .before .before .before .before .before .pre .2) in
-    (omega (arith, t), laid-turn (now (g .found)) (l .c) (l .inv .1) (laid-put (c .before .before .put-line .ensures) fits))
+    (put-line-more (now (g .found)) (l .done) (g .k) (now (g .room)) (g .at) (omega (arith, t)) (c .before .before .before .before .before .before .before .before .before .before .before .pre .2) (l .inv .0) (c .before .before .put-line .ensures), omega (arith, t))
 
 same-length : tie.Need-same-length Inv-loop μ-loop
-same-length c = laid-length (c .before .loop .inv .1)
+same-length c = put-length (c .before .loop .inv .0)
 
 returns : tie.Need-returns Inv-loop μ-loop
 returns c = let l = c .before .loop in
     let g = c .before .before .before .before .args in
-    let e : l .c ≡ g .k = omega (arith, l .inv .0, c .loop-test .left) in
-    laid-as (ap (linesIn (now (g .found))) e) (l .inv .1)
+    let e : l .done ≡ g .k = omega (arith, l .inv .1, c .loop-test .left) in
+    put-as (ap (linesIn (now (g .found))) e) (l .inv .0)
 
 pub put-lines-spec : {M : Type 1} → statement M
 put-lines-spec =
@@ -89,7 +88,7 @@ put-lines-spec =
     mul-put-line-3
     shared-slice-read-put-line-3
     put-line-requires
-    add-c
+    add-done
     loop-less
     loop-again
     same-length

@@ -5,10 +5,10 @@ use denote.Ref.{now}
 use lib.ListN.{length}
 use mathlib.Core.Path.{_≡_, sym, ap, _∙_}
 use native.Mathlib.Omega.{arith}
-use Rattle.leaklist.proofs.Lines.{lines-none, lines-turn}
-use Rattle.leaklist.specs.Code.{linesIn}
-use Rattle.leaklist.proofs.words.lines_length.Statement.{statement}
-use Rattle.leaklist.proofs.words.lines_length.Tie as tie
+use Rattle.writing.proofs.Lines.{lines-none, lines-turn}
+use Rattle.writing.specs.Triples.{linesIn}
+use Rattle.writing.proofs.lines_length.Statement.{statement}
+use Rattle.writing.proofs.lines_length.Tie as tie
 
 abbrev Inv-loop : tie.InvT-loop
 Inv-loop found k sum₀ c₀ sum c = (c ≤ k) × (sum ≡ length (linesIn found c)) × (sum ≤ 20000000000 * c)

@@ -1,0 +1,44 @@
+-- Leaks as triples of numbers, one behind the other, their lines, and the list of them in a room, or refusal 7. Definitions only.
+use Prim.Native.Nat.{ℕ, zero, suc, _+_, _*_, _/_}
+use mathlib.Core.Path.{_≡_}
+use mathlib.Core.Bool.{cond}
+use mathlib.Core.List.{List, [], _∷_, _++_}
+use lib.Dec.{ltb}
+use lib.ListN.{length, getD}
+use Rattle.listing.specs.declared.Listed.{Listed}
+use Rattle.listing.specs.Leaks.{Leak}
+use Rattle.listing.specs.Words.{firstLine, leakLine, leakLines}
+use Rattle.listing.specs.Listing.{Whole, refused, tooShort, answered}
+
+-- triple k, from 0, as a leak: two ids and N
+abbrev pub leakAt : List ℕ → ℕ → Leak
+leakAt found k = record { test = getD found (3 * k) 0; train = getD found (3 * k + 1) 0; pairs = getD found (3 * k + 2) 0 }
+
+-- the first k triples as leaks
+unfoldable pub leaksIn : List ℕ → ℕ → List Leak
+leaksIn found zero = []
+leaksIn found (suc k) = leaksIn found k ++ (leakAt found k ∷ [])
+
+-- and their lines
+unfoldable pub linesIn : List ℕ → ℕ → List ℕ
+linesIn found zero = []
+linesIn found (suc k) = linesIn found k ++ leakLine (leakAt found k)
+
+abbrev pub lesser : ℕ → ℕ → ℕ
+lesser a b = cond (ltb a b) a b
+
+-- of k leaks those that there are numbers for, and 4,096 at most: one for each two of 64 recordings
+unfoldable pub heldIn : List ℕ → ℕ → ℕ
+heldIn found k = lesser k (lesser (length found / 3) 4096)
+
+-- the list of these leaks: its first line and theirs
+abbrev pub textOf : List Leak → List ℕ
+textOf ls = firstLine (length ls) ++ leakLines ls
+
+-- in the room, or refusal 7 where the room is shorter
+unfoldable pub wholeOf : List Leak → List ℕ → Whole
+wholeOf ls room = cond (ltb (length room) (length (textOf ls))) (refused room tooShort) (answered room (textOf ls) (length ls))
+
+pub record WrittenAs (ls : List Leak) (room : List ℕ) (result : Listed) (after : List ℕ) : Type 0 where
+  pub result-is : result ≡ wholeOf ls room .result
+  pub after-is : after ≡ wholeOf ls room .room
