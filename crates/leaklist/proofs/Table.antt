@@ -1,5 +1,5 @@
 -- The table of prepared triangles: what is put there is found there, and decisions from it are those of the file. Assumes nothing.
-use Prim.Native.Nat.{ℕ, suc, _+_, _*_, _<_, _≤_}
+use Prim.Native.Nat.{ℕ, _+_, _*_, _<_, _≤_}
 use mathlib.Core.Path.{_≡_, refl, sym, ap, subst, _∙_}
 use mathlib.Core.Bool.{Bool, true, false}
 use mathlib.Core.List.{List}
@@ -7,31 +7,15 @@ use native.Mathlib.Omega.{arith}
 use native.Mathlib.Nat.{add-zero}
 use lib.Dec.{ltb}
 use borrow.Author.Tests.{ltb-true, ltb-false}
-use lib.ListN.{length, getD, set}
+use lib.ListN.{length, getD}
 use lib.Ieee.{Float, nan}
+use Rattle.floats.specs.declared.Position.{Position}
 use Rattle.text.specs.Room.{laid}
-use Rattle.text.proofs.Room.{laid-sets, laid-before, laid-inside}
+use Rattle.text.proofs.Room.{laid-before, laid-inside}
 use Rattle.shapes.specs.declared.Shape.{Shape}
 use Rattle.shapes.specs.Shapes.{shapeOf}
 use Rattle.layout.specs.Recordings.{f64At}
-use Rattle.leaklist.specs.Code.{elevenOf, shapeIn, shapeFrom, Prepared}
-
--- eleven stores, one after the other, lay eleven values
-pub eleven-laid : (l : List Float) (i : ℕ) (s : Shape) → i + 11 ≤ length l →
-    set (set (set (set (set (set (set (set (set (set (set l i (s .x0)) (i + 1) (s .y0)) (i + 2) (s .x1)) (i + 3) (s .y1)) (i + 4) (s .x2)) (i + 5) (s .y2)) (i + 6) (s .ax)) (i + 7) (s .ay)) (i + 8) (s .bx)) (i + 9) (s .by)) (i + 10) (s .cross)
-    ≡ laid l i (elevenOf s)
-eleven-laid l i s fits =
-    let e1 : i + 1 ≡ suc i = omega arith in
-    let e2 : i + 2 ≡ suc (suc i) = omega arith in
-    let e3 : i + 3 ≡ suc (suc (suc i)) = omega arith in
-    let e4 : i + 4 ≡ suc (suc (suc (suc i))) = omega arith in
-    let e5 : i + 5 ≡ suc (suc (suc (suc (suc i)))) = omega arith in
-    let e6 : i + 6 ≡ suc (suc (suc (suc (suc (suc i))))) = omega arith in
-    let e7 : i + 7 ≡ suc (suc (suc (suc (suc (suc (suc i)))))) = omega arith in
-    let e8 : i + 8 ≡ suc (suc (suc (suc (suc (suc (suc (suc i))))))) = omega arith in
-    let e9 : i + 9 ≡ suc (suc (suc (suc (suc (suc (suc (suc (suc i)))))))) = omega arith in
-    let e10 : i + 10 ≡ suc (suc (suc (suc (suc (suc (suc (suc (suc (suc i))))))))) = omega arith in
-    rw (e1, e2, e3, e4, e5, e6, e7, e8, e9, e10) (sym (laid-sets l (elevenOf s) i fits))
+use Rattle.leaklist.specs.Code.{elevenOf, positionAt, shapeIn, shapeFrom, Prepared}
 
 -- ---- shapes in the table
 shapeBy : Float → Float → Float → Float → Float → Float → Float → Float → Float → Float → Float → Shape
@@ -43,6 +27,15 @@ fields p0 p1 p2 p3 p4 p5 p6 p7 p8 p9 p10 = rw (p0, p1, p2, p3, p4, p5, p6, p7, p
 shape-same : {a b : Shape} → a .x0 ≡ b .x0 → a .y0 ≡ b .y0 → a .x1 ≡ b .x1 → a .y1 ≡ b .y1 → a .x2 ≡ b .x2 → a .y2 ≡ b .y2 → a .ax ≡ b .ax → a .ay ≡ b .ay → a .bx ≡ b .bx → a .by ≡ b .by → a .cross ≡ b .cross → a ≡ b
 unfolding shapeBy
 shape-same p0 p1 p2 p3 p4 p5 p6 p7 p8 p9 p10 = fields p0 p1 p2 p3 p4 p5 p6 p7 p8 p9 p10
+
+-- a shape by its positions and sides, as they are read
+pub shape-at : (table : List Float) (k : ℕ) {p q r a b : Position} → p ≡ positionAt table (11 * k) → q ≡ positionAt table (11 * k + 2) → r ≡ positionAt table (11 * k + 4) → a ≡ positionAt table (11 * k + 6) → b ≡ positionAt table (11 * k + 8) →
+    _≡_ {A = Shape} (record { x0 = p .x; y0 = p .y; x1 = q .x; y1 = q .y; x2 = r .x; y2 = r .y; ax = a .x; ay = a .y; bx = b .x; by = b .y; cross = getD table (11 * k + 10) nan }) (shapeIn table k)
+shape-at table k hp hq hr ha hb =
+    shape-same (ap (λ v. v .x) hp) (ap (λ v. v .y) hp) (ap (λ v. v .x) hq) (second 2 3 (omega arith) hq) (ap (λ v. v .x) hr) (second 4 5 (omega arith) hr) (ap (λ v. v .x) ha) (second 6 7 (omega arith) ha) (ap (λ v. v .x) hb) (second 8 9 (omega arith) hb) refl
+  where
+    second : (i j : ℕ) {v : Position} → 11 * k + i + 1 ≡ 11 * k + j → v ≡ positionAt table (11 * k + i) → v .y ≡ getD table (11 * k + j) nan
+    second i j e h = ap (λ v. v .y) h ∙ ap (λ n. getD table n nan) e
 
 module _ (table : List Float) (n : ℕ) (s : Shape) (fits : 11 * n + 11 ≤ length table) where
   abbrev after : List Float

@@ -6,6 +6,7 @@ use mathlib.Core.List.{List, [], _∷_, _++_, map}
 use lib.Dec.{ltb, eqb}
 use lib.ListN.{length, getD}
 use lib.Ieee.{Float, nan}
+use Rattle.floats.specs.declared.Position.{Position}
 use Rattle.triangles.specs.declared.Decision.{Decision}
 use Rattle.triangles.specs.Decision.{decisionOf}
 use Rattle.shapes.specs.declared.Shape.{Shape}
@@ -24,6 +25,9 @@ use Rattle.listing.specs.Listing.{listOf}
 -- ---- a prepared triangle in the table, and the same from the file
 abbrev pub elevenOf : Shape → List Float
 elevenOf s = s .x0 ∷ s .y0 ∷ s .x1 ∷ s .y1 ∷ s .x2 ∷ s .y2 ∷ s .ax ∷ s .ay ∷ s .bx ∷ s .by ∷ s .cross ∷ []
+
+abbrev pub positionAt : List Float → ℕ → Position
+positionAt table at = record { x = getD table at nan; y = getD table (at + 1) nan }
 
 abbrev pub shapeIn : List Float → ℕ → Shape
 shapeIn table k = record {

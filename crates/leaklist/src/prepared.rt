@@ -1,26 +1,51 @@
 // The triangles of a file, prepared: eleven values each, in a flat table.
 ghost use mathlib.Core.Path.{_≡_};
+ghost use mathlib.Core.List.{[], _∷_};
 ghost use Prim.Native.Nat.{_+_, _*_, _≤_, _<_};
 ghost use lib.ListN.{length};
-ghost use Rattle.text.specs.Room.{laid};
-ghost use Rattle.leaklist.specs.Code.{elevenOf, shapeIn, Prepared};
+ghost use Rattle.text.specs.Room.{Put};
+ghost use Rattle.leaklist.specs.Code.{elevenOf, positionAt, shapeIn, Prepared};
 
-fn put_shape(table: &mut [f64], k: usize, s: shapes::Shape)
-    requires { ⌜ (k < 2730) × (11 * k + 11 ≤ length (now table)) ⌝ }
-    ensures { λ _. ⌜ now (table .exit) ≡ laid (now (table .entry)) (11 * k) (elevenOf s) ⌝ }
+// A value where there is room for it, from a place on; the place behind it.
+fn put_value(table: &mut [f64], at: usize, v: f64) -> usize
+    requires { ⌜ at + 1 ≤ length (now table) ⌝ }
+    ensures { λ r. ⌜ Put (now (table .entry)) at (v ∷ []) (now (table .exit)) r ⌝ }
 {
-    let at = 11 * k;
-    table[at] = s.x0;
-    table[at + 1] = s.y0;
-    table[at + 2] = s.x1;
-    table[at + 3] = s.y1;
-    table[at + 4] = s.x2;
-    table[at + 5] = s.y2;
-    table[at + 6] = s.ax;
-    table[at + 7] = s.ay;
-    table[at + 8] = s.bx;
-    table[at + 9] = s.by;
-    table[at + 10] = s.cross;
+    table[at] = v;
+    at + 1
+}
+
+// A position or a side, likewise.
+fn put_position(table: &mut [f64], at: usize, x: f64, y: f64) -> usize
+    requires { ⌜ at + 2 ≤ length (now table) ⌝ }
+    ensures { λ r. ⌜ Put (now (table .entry)) at (x ∷ y ∷ []) (now (table .exit)) r ⌝ }
+{
+    table[at] = x;
+    table[at + 1] = y;
+    at + 2
+}
+
+// Triangle k, likewise.
+fn put_shape(table: &mut [f64], k: usize, s: shapes::Shape) -> usize
+    requires { ⌜ (k < 2730) × (11 * k + 11 ≤ length (now table)) ⌝ }
+    ensures { λ r. ⌜ Put (now (table .entry)) (11 * k) (elevenOf s) (now (table .exit)) r ⌝ }
+{
+    let p = put_position(table, 11 * k, s.x0, s.y0);
+    let q = put_position(table, p, s.x1, s.y1);
+    let r = put_position(table, q, s.x2, s.y2);
+    let a = put_position(table, r, s.ax, s.ay);
+    let b = put_position(table, a, s.bx, s.by);
+    put_value(table, b, s.cross)
+}
+
+fn position_at(table: &[f64], at: usize) -> floats::Position
+    requires { ⌜ at + 2 ≤ length (now table) ⌝ }
+    ensures { λ r. ⌜ r ≡ positionAt (now (table .entry)) at ⌝ }
+{
+    floats::Position {
+        x: table[at],
+        y: table[at + 1],
+    }
 }
 
 pub(crate) fn shape_in(table: &[f64], k: usize) -> shapes::Shape
@@ -28,17 +53,22 @@ pub(crate) fn shape_in(table: &[f64], k: usize) -> shapes::Shape
     ensures { λ r. ⌜ r ≡ shapeIn (now (table .entry)) k ⌝ }
 {
     let at = 11 * k;
+    let p = position_at(table, at);
+    let q = position_at(table, at + 2);
+    let r = position_at(table, at + 4);
+    let a = position_at(table, at + 6);
+    let b = position_at(table, at + 8);
     shapes::Shape {
-        x0: table[at],
-        y0: table[at + 1],
-        x1: table[at + 2],
-        y1: table[at + 3],
-        x2: table[at + 4],
-        y2: table[at + 5],
-        ax: table[at + 6],
-        ay: table[at + 7],
-        bx: table[at + 8],
-        by: table[at + 9],
+        x0: p.x,
+        y0: p.y,
+        x1: q.x,
+        y1: q.y,
+        x2: r.x,
+        y2: r.y,
+        ax: a.x,
+        ay: a.y,
+        bx: b.x,
+        by: b.y,
         cross: table[at + 10],
     }
 }

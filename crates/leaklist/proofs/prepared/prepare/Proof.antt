@@ -72,7 +72,7 @@ loop-again : tie.Need-loop-again Inv-loop μ-loop
 loop-again c = let l = c .before .before .before .before .before .before .before .before .before .before .before .before .loop in
     let g = c .before .before .before .before .before .before .before .before .before .before .before .before .before .before .before .args in
     let s = shape-read (now (g .file)) (24 * l .k) (c .before .before .before .before .before .before .before .before .before .before .f64-at .ensures) (c .before .before .before .before .before .before .before .before .before .f64-at2 .ensures) (c .before .before .before .before .before .before .before .before .f64-at3 .ensures) (c .before .before .before .before .before .before .before .f64-at4 .ensures) (c .before .before .before .before .before .before .f64-at5 .ensures) (c .before .before .before .before .before .f64-at6 .ensures) (c .before .before .before .before .shape-of .ensures) in
-    let e = c .before .before .put-shape .ensures in
+    let e = c .before .before .put-shape .ensures .after-is in
     (omega (arith, c .before .before .before .before .before .before .before .before .before .before .before .loop-test .taken), ap length e ∙ (laid-length (l .table) (elevenOf (c .before .before .before .before .shape-of .result)) (11 * l .k) ∙ l .inv .1), prepared-as (now (g .file)) (l .k + 1) e (prepared-turn (l .table) (l .k) _ (omega (arith, l .inv .1, c .before .before .before .before .before .before .before .before .before .before .before .loop-test .taken, c .before .before .before .before .before .before .before .before .before .before .before .before .before .before .before .pre .1)) (now (g .file)) (l .inv .2) s))
 
 same-length : tie.Need-same-length Inv-loop μ-loop
