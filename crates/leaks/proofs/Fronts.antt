@@ -13,10 +13,10 @@ use Rattle.listing.specs.Listing.{outputOf}
 use Rattle.listing.specs.Enough.{Bytes}
 use Rattle.leaklist.specs.Code.{toldOf}
 use Rattle.leaklist.proofs.Said.{said-whole}
-use Rattle.reading.specs.declared.Got.{Got}
-use Rattle.reading.specs.declared.Piece.{Piece}
-use Rattle.reading.specs.declared.Piece.the-variants.{Failed, Ended, More}
-use Rattle.reading.specs.Reading.{isRead, Stopped}
+use Rattle.input.specs.declared.Got.{Got}
+use Rattle.input.specs.declared.Piece.{Piece}
+use Rattle.input.specs.declared.Piece.the-variants.{Failed, Ended, More}
+use Rattle.input.specs.Reading.{isRead, Stopped}
 use Rattle.leaks.specs.Answer.{AtFront, NoSecondFront, saidOf, Delivered}
 use Rattle.leaks.proofs.FirstBytes.{first-bytes}
 

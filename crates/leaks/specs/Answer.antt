@@ -7,11 +7,11 @@ use lib.IntN.{ℤ}
 use lib.ListN.{length, take, drop}
 use Rattle.libc.specs.Io.{Moved}
 use Rattle.listing.specs.Listing.{outputOf}
-use Rattle.reading.specs.declared.Got.{Got}
-use Rattle.reading.specs.declared.Piece.{Piece}
-use Rattle.reading.specs.declared.Piece.the-variants.{Ended}
+use Rattle.input.specs.declared.Got.{Got}
+use Rattle.input.specs.declared.Piece.{Piece}
+use Rattle.input.specs.declared.Piece.the-variants.{Ended}
 use Rattle.leaks.specs.declared.Reply.{Reply}
-use Rattle.reading.specs.Reading.{pieceOf, isRead, Stopped}
+use Rattle.input.specs.Reading.{pieceOf, isRead, Stopped}
 
 -- of a read of at most so many bytes: some answer that read may give, as it is to be taken
 abbrev pub Took : ℕ → Piece → Type 0

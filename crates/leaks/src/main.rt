@@ -3,12 +3,12 @@
 use libc::STDERR_FILENO;
 use libc::STDIN_FILENO;
 use libc::STDOUT_FILENO;
-use reading::Got;
-use reading::Piece;
+use input::Got;
+use input::Piece;
 ghost use mathlib.Core.Path.{_≡_};
 ghost use lib.ListN.{length, take};
 ghost use Rattle.listing.specs.Listing.{outputOf};
-ghost use Rattle.reading.specs.Reading.{Stopped};
+ghost use Rattle.input.specs.Reading.{Stopped};
 ghost use Rattle.leaks.specs.Answer.{Took, AtFront, saidOf, Replied};
 
 // One byte more than a file may have.
@@ -27,7 +27,7 @@ fn read_some(fd: i32, part: &mut [u8]) -> Piece
     ensures { λ r. ⌜ Took (length (now (part .exit))) r ⌝ }
 {
     let got = libc::read(fd, part);
-    reading::piece_of(got, part.len())
+    input::piece_of(got, part.len())
 }
 
 // Reads until the space is full, the input ends or a read fails.
@@ -58,8 +58,8 @@ fn answer(g: Got, space: &[u8; SPACE], room: &mut [u8; ROOM]) -> usize
     ensures { λ r. ⌜ AtFront (saidOf g (now (space .entry))) (now (room .entry)) r (now (room .exit)) ⌝ }
 {
     let n = g.n;
-    if reading::is_read(g) {
-        return output(reading::front(space, n), room);
+    if input::is_read(g) {
+        return output(input::front(space, n), room);
     }
     0
 }
@@ -77,7 +77,7 @@ fn reply_to(fd: i32, space: &mut [u8; SPACE], room: &mut [u8; ROOM]) -> Reply
 fn text(room: &[u8; ROOM], n: usize) -> &[u8]
     ensures { λ r. ⌜ now r ≡ take n (now (room .entry)) ⌝ }
 {
-    reading::front(room, n)
+    input::front(room, n)
 }
 
 fn main() {
@@ -89,7 +89,7 @@ fn main() {
     if !io::write_all(STDOUT_FILENO, text(&room, n)) {
         io::write_all(STDERR_FILENO, b"leaks: writing failed\n");
     }
-    if !reading::is_read(got) {
+    if !input::is_read(got) {
         io::write_all(STDERR_FILENO, b"leaks: reading failed\n");
     }
 }

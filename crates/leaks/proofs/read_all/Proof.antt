@@ -7,11 +7,11 @@ use native.Mathlib.Omega.{arith}
 use lib.ListN.{length}
 use types.Run.{OneOf}
 use denote.Enum.Declared.{tagOf}
-use Rattle.reading.proofs.Piece.{the-type}
+use Rattle.input.proofs.Piece.{the-type}
 use borrow.Author.Needs.{needs}
-use Rattle.reading.specs.declared.Piece.{Piece}
-use Rattle.reading.specs.declared.Piece.the-variants.{More}
-use Rattle.reading.proofs.Within.{more-within}
+use Rattle.input.specs.declared.Piece.{Piece}
+use Rattle.input.specs.declared.Piece.the-variants.{More}
+use Rattle.input.proofs.Within.{more-within}
 use Rattle.leaks.specs.Answer.{Took}
 use Rattle.leaks.proofs.read_all.Statement.{statement}
 use Rattle.leaks.proofs.read_all.Tie as tie

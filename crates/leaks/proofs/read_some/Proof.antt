@@ -6,7 +6,7 @@ use mir.Syntax.{w64}
 use mir.Facts.{toZ-ofZ}
 use borrow.Author.Needs.{needs}
 use Rattle.libc.specs.Io.{Moved}
-use Rattle.reading.specs.Reading.{pieceOf}
+use Rattle.input.specs.Reading.{pieceOf}
 use Rattle.leaks.proofs.read_some.Statement.{statement}
 use Rattle.leaks.proofs.read_some.Tie as tie
 

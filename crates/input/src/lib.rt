@@ -2,7 +2,7 @@
 ghost use mathlib.Core.Path.{_≡_};
 ghost use Prim.Native.Nat.{min};
 ghost use lib.ListN.{take};
-ghost use Rattle.reading.specs.Reading.{pieceOf, isRead};
+ghost use Rattle.input.specs.Reading.{pieceOf, isRead};
 
 // What one read's answer says.
 pub enum Piece {

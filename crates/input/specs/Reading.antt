@@ -4,9 +4,9 @@ use mathlib.Core.Path.{_≡_}
 use mathlib.Core.Bool.{Bool, true, false, cond}
 use lib.Dec.{eqb}
 use lib.IntN.{ℤ, pos, negsuc}
-use Rattle.reading.specs.declared.Got.{Got}
-use Rattle.reading.specs.declared.Piece.{Piece}
-use Rattle.reading.specs.declared.Piece.the-variants.{Failed, Ended, More}
+use Rattle.input.specs.declared.Got.{Got}
+use Rattle.input.specs.declared.Piece.{Piece}
+use Rattle.input.specs.declared.Piece.the-variants.{Failed, Ended, More}
 
 -- a read that did not fail: no bytes are the end of the input
 abbrev pub came : ℕ → Piece

@@ -6,9 +6,9 @@ use native.Mathlib.Omega.{arith}
 use lib.Dec.{eqb}
 use lib.IntN.{ℤ, pos, negsuc}
 use borrow.Author.Tests.{eqb-false}
-use Rattle.reading.specs.declared.Piece.{Piece}
-use Rattle.reading.specs.declared.Piece.the-variants.{Failed, Ended, More}
-use Rattle.reading.specs.Reading.{came, pieceOf, MoreWithin}
+use Rattle.input.specs.declared.Piece.{Piece}
+use Rattle.input.specs.declared.Piece.the-variants.{Failed, Ended, More}
+use Rattle.input.specs.Reading.{came, pieceOf, MoreWithin}
 
 some : (b : Bool) (j k : ℕ) → eqb j 0 ≡ b → cond b Ended (More j) ≡ More k → (0 < k) × (j ≡ k)
 some true j k e h = let z : _≡_ {A = ℕ} 0 1 = cc in absurd (omega (arith, z))

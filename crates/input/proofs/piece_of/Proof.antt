@@ -11,11 +11,11 @@ use mir.Val.{toZ, ofZ}
 use mir.Facts.{toZ-ofZ, fits-natAbs, sfits-toZ, fits-ofZ}
 use borrow.Author.Needs.{needs}
 use borrow.Author.Tests.{ltb-true, eq-eqb, ne-eqb}
-use Rattle.reading.specs.declared.Piece.{Piece}
-use Rattle.reading.specs.declared.Piece.the-variants.{Failed, Ended, More}
-use Rattle.reading.specs.Reading.{came, pieceOf}
-use Rattle.reading.proofs.piece_of.Statement.{statement}
-use Rattle.reading.proofs.piece_of.Tie as tie
+use Rattle.input.specs.declared.Piece.{Piece}
+use Rattle.input.specs.declared.Piece.the-variants.{Failed, Ended, More}
+use Rattle.input.specs.Reading.{came, pieceOf}
+use Rattle.input.proofs.piece_of.Statement.{statement}
+use Rattle.input.proofs.piece_of.Tie as tie
 
 negative : (z : ℤ) (most : ℕ) → ltZ z (pos 0) ≡ true → Failed ≡ pieceOf most z
 negative (negsuc k) most e = refl
