@@ -1,10 +1,10 @@
 // Reads a footprint file on standard input, to its end or one byte more than a file may have, and writes the leak list, or the line that says how the file is refused. Where a read
 // fails the file has not ended: then nothing is written but a line on standard error.
+use input::Got;
+use input::Piece;
 use libc::STDERR_FILENO;
 use libc::STDIN_FILENO;
 use libc::STDOUT_FILENO;
-use input::Got;
-use input::Piece;
 ghost use mathlib.Core.Path.{_≡_};
 ghost use lib.ListN.{length, take};
 ghost use Rattle.listing.specs.Listing.{outputOf};
