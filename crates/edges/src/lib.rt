@@ -6,7 +6,7 @@ ghost use Prim.Native.Nat.{_<_};
 ghost use lib.Ieee.{le};
 ghost use Rattle.floats.specs.Finite.{nought};
 ghost use Rattle.lines.specs.Lines.{lowerEnd, higherEnd};
-ghost use Rattle.edges.specs.Code.{tested, seenFirst, inOrder, aroundBy, threeBy, twoBy, orderBy, ordersOn};
+ghost use Rattle.edges.specs.Code.{tested, seenFirst, inOrder, aroundBy, threeBy, twoBy, orderBy, orderOn, ordersOn};
 
 // By V's corners: whether the corner's lower line is met before its upper one, false where the edge does not cross both. And whether all
 // pair tests that were computed are finite.
@@ -202,19 +202,22 @@ pub fn higher_end(e: usize) -> usize
     if i < j { j } else { i }
 }
 
-// The orders along U's three edges, by the parameters and the signs of U's vertices, each seen from its edge's lower end.
+// The order along U's edge e, by the parameters and the signs of U's vertices, seen from its lower end.
+fn order_on(params: [lines::Params; 3], signs: [[bool; 3]; 3], e: usize) -> Order
+    ensures { λ r. ⌜ r ≡ orderOn params signs e ⌝ }
+{
+    let i = lower_end(e);
+    let j = higher_end(e);
+    order_of(params[i], params[j], signs[i], signs[j])
+}
+
+// The orders along U's three edges.
 pub fn orders_of(params: [lines::Params; 3], signs: [[bool; 3]; 3]) -> [Order; 3]
     ensures { λ r. ⌜ r ≡ ordersOn params signs ⌝ }
 {
-    let i = lower_end(0);
-    let j = higher_end(0);
-    let k = lower_end(1);
-    let l = higher_end(1);
-    let m = lower_end(2);
-    let n = higher_end(2);
     [
-        order_of(params[i], params[j], signs[i], signs[j]),
-        order_of(params[k], params[l], signs[k], signs[l]),
-        order_of(params[m], params[n], signs[m], signs[n]),
+        order_on(params, signs, 0),
+        order_on(params, signs, 1),
+        order_on(params, signs, 2),
     ]
 }

@@ -4,8 +4,9 @@ use mathlib.Core.Path.{_≡_}
 use mathlib.Core.Bool.{true, cond}
 use mathlib.Core.List.{List, []}
 use lib.IntN.{ℤ}
-use lib.ListN.{length, take, drop}
+use lib.ListN.{length, take}
 use Rattle.libc.specs.Io.{Moved}
+use Rattle.text.specs.Room.{Put}
 use Rattle.listing.specs.Listing.{outputOf}
 use Rattle.input.specs.declared.Got.{Got}
 use Rattle.input.specs.declared.Piece.{Piece}
@@ -17,11 +18,10 @@ use Rattle.input.specs.Reading.{pieceOf, isRead, Stopped}
 abbrev pub Took : ℕ → Piece → Type 0
 Took most t = (got : ℤ) × Moved most got × (t ≡ pieceOf most got)
 
--- a text at the front of a room, and its length; the rest stays
+-- a text is put at the front of a room that has room for it; so it stands there whole, n is its length, and the rest stays (`PutsWhole`)
 pub record AtFront (text room : List ℕ) (n : ℕ) (after : List ℕ) : Type 0 where
-  pub length-is : n ≡ length text
-  pub front : take n after ≡ text
-  pub rest : drop n after ≡ drop n room
+  pub put : Put room 0 text after n
+  pub fits : length text ≤ length room
 
 -- no second length and no second room meets it
 abbrev pub NoSecondFront : Type 0
