@@ -4,6 +4,7 @@ use mathlib.Core.Path.{_≡_, refl, sym, ap, _∙_}
 use mathlib.Core.Bool.{true, false, false≢true}
 use mathlib.Core.List.{List, []}
 use native.Mathlib.Omega.{arith}
+use native.Mathlib.Nat.{zero-add}
 use lib.ListN.{length, take}
 use lib.Seq.{take-all}
 use Rattle.text.specs.Room.{Put}
@@ -22,8 +23,9 @@ use Rattle.leaks.proofs.FirstBytes.{first-bytes}
 -- the text stands at the front
 stands : {text room after : List ℕ} {n : ℕ} → AtFront text room n after → take n after ≡ text
 stands {text} {room} {after} {n} p =
-    let w = whole-or-nothing (p .put) .whole (p .fits) in
-    ap (λ k. take k after) (w .1) ∙ w .0
+    let h = p .fits in
+    let w = whole-or-nothing (p .put) .whole (omega (arith, h)) in
+    ap (λ k. take k after) (w .1 ∙ zero-add (length text)) ∙ w .0
 
 -- what is told of any bytes is what is to be said of them, and fits
 pub told-at-front : (file room : List ℕ) {after : List ℕ} {n : ℕ} → Bytes file → 65536 ≤ length room → Put room 0 (toldOf file room) after n → AtFront (outputOf file) room n after
