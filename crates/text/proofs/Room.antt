@@ -2,12 +2,12 @@
 use Prim.Native.Nat.{ℕ, suc, _+_, _<_, _≤_}
 use mathlib.Core.Path.{_≡_, refl, ap, ap₂, sym, subst, _∙_}
 use mathlib.Core.Bool.{Bool, true, false}
-use mathlib.Core.List.{List, [], _∷_, _++_, append-assoc, append-nil}
+use mathlib.Core.List.{List, [], _∷_, _++_, append-assoc}
 use native.Mathlib.Omega.{arith}
 use native.Mathlib.Nat.{add-zero}
 use lib.Dec.{leb}
 use borrow.Author.Tests.{leb-true, leb-false, le-leb, lt-leb}
-use lib.ListN.{length, getD, take, drop, set, length-append, take-append-drop, List·getD-append}
+use lib.ListN.{length, getD, take, drop, set, length-append, List·getD-append}
 use lib.Seq.{sets, sets-eq, length-sets, length-take-le, take-append-seam, take-at, drop-at, getD-take, getD-append-add}
 use Rattle.text.specs.Room.{Measured, laid, behind, Put, WholeOrNothing, NoSecondPut, PutsWhole}
 
@@ -19,6 +19,9 @@ module _ {A : Type 0} (room text : List A) (at : ℕ) where
   pub laid-whole : at + length text ≤ length room → laid room at text ≡ take at room ++ text ++ drop (at + length text) room
   unfolding laid
   laid-whole h = rw (le-leb (at + length text) (length room) h) refl
+
+  front-length : at + length text ≤ length room → length (take at room) ≡ at
+  front-length h = length-take-le at room (omega (arith, h))
 
   pub laid-sets : at + length text ≤ length room → laid room at text ≡ sets room at text
   laid-sets h = laid-whole h ∙ sym (sets-eq text room at h)
@@ -51,17 +54,14 @@ module _ {A : Type 0} (room text : List A) (at : ℕ) where
   stands : WholeOrNothing room at text (laid room at text) (behind room at text)
   stands = go (leb (at + length text) (length room)) refl
     where
-      before : at + length text ≤ length room → length (take at room) ≡ at
-      before h = length-take-le at room (omega (arith, h))
-
       parts : at + length text ≤ length room → laid room at text ≡ take at room ++ (text ++ drop (at + length text) room)
       parts h = laid-whole h ∙ append-assoc (take at room) text (drop (at + length text) room)
 
       there : at + length text ≤ length room → take (length text) (drop at (laid room at text)) ≡ text
-      there h = ap (λ r. take (length text) (drop at r)) (parts h) ∙ (ap (take (length text)) (drop-at (take at room) (text ++ drop (at + length text) room) at (before h)) ∙ take-append-seam text (drop (at + length text) room))
+      there h = ap (λ r. take (length text) (drop at r)) (parts h) ∙ (ap (take (length text)) (drop-at (take at room) (text ++ drop (at + length text) room) at (front-length h)) ∙ take-append-seam text (drop (at + length text) room))
 
       kept : at + length text ≤ length room → drop (at + length text) (laid room at text) ≡ drop (at + length text) room
-      kept h = ap (drop (at + length text)) (laid-whole h) ∙ drop-at (take at room ++ text) (drop (at + length text) room) (at + length text) (length-append (take at room) text ∙ ap (λ n. n + length text) (before h))
+      kept h = ap (drop (at + length text)) (laid-whole h) ∙ drop-at (take at room ++ text) (drop (at + length text) room) (at + length text) (length-append (take at room) text ∙ ap (λ n. n + length text) (front-length h))
 
       go : (b : Bool) → leb (at + length text) (length room) ≡ b → WholeOrNothing room at text (laid room at text) (behind room at text)
       go true e = let h = leb-true (at + length text) (length room) e in
@@ -69,7 +69,7 @@ module _ {A : Type 0} (room text : List A) (at : ℕ) where
             whole = λ g. (there h, behind-whole h);
             nothing = λ g. absurd (omega (arith, g, h));
             sameLength = ap length (laid-sets h) ∙ length-sets room at text;
-            front = ap (take at) (parts h) ∙ take-at (take at room) (text ++ drop (at + length text) room) at (before h);
+            front = ap (take at) (parts h) ∙ take-at (take at room) (text ++ drop (at + length text) room) at (front-length h);
             rest = ap (λ n. drop n (laid room at text)) (behind-whole h) ∙ (kept h ∙ ap (λ n. drop n room) (sym (behind-whole h)));
           }
       go false e = let h = leb-false (at + length text) (length room) e in
@@ -93,20 +93,17 @@ puts-whole A room at text after next p = whole-or-nothing p
 
 -- ---- the same value by value
 module _ {A : Type 0} (room text : List A) (at : ℕ) (d : A) (h : at + length text ≤ length room) where
-  before : length (take at room) ≡ at
-  before = length-take-le at room (omega (arith, h))
-
   pub laid-before : (k : ℕ) → k < at → getD (laid room at text) k d ≡ getD room k d
   laid-before k l =
       ap (λ r. getD r k d) (laid-whole room text at h)
-      ∙ (List·getD-append (take at room ++ text) (drop (at + length text) room) d k (omega (arith, l, length-append (take at room) text, before))
-      ∙ (List·getD-append (take at room) text d k (omega (arith, l, before)) ∙ getD-take at room k d l))
+      ∙ (List·getD-append (take at room ++ text) (drop (at + length text) room) d k (omega (arith, l, length-append (take at room) text, front-length room text at h))
+      ∙ (List·getD-append (take at room) text d k (omega (arith, l, front-length room text at h)) ∙ getD-take at room k d l))
 
   pub laid-inside : (k : ℕ) → k < length text → getD (laid room at text) (at + k) d ≡ getD text k d
   laid-inside k l =
       ap (λ r. getD r (at + k) d) (laid-whole room text at h)
-      ∙ (List·getD-append (take at room ++ text) (drop (at + length text) room) d (at + k) (omega (arith, l, length-append (take at room) text, before))
-      ∙ (ap (λ n. getD (take at room ++ text) (n + k) d) (sym before) ∙ getD-append-add (take at room) text k d))
+      ∙ (List·getD-append (take at room ++ text) (drop (at + length text) room) d (at + k) (omega (arith, l, length-append (take at room) text, front-length room text at h))
+      ∙ (ap (λ n. getD (take at room ++ text) (n + k) d) (sym (front-length room text at h)) ∙ getD-append-add (take at room) text k d))
 
 module _ {A : Type 0} where
   -- ---- one after the other

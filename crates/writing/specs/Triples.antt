@@ -24,6 +24,7 @@ unfoldable pub linesIn : List ℕ → ℕ → List ℕ
 linesIn found zero = []
 linesIn found (suc k) = linesIn found k ++ leakLine (leakAt found k)
 
+-- the lesser of two numbers
 abbrev pub lesser : ℕ → ℕ → ℕ
 lesser a b = cond (ltb a b) a b
 
@@ -39,6 +40,7 @@ textOf ls = firstLine (length ls) ++ leakLines ls
 unfoldable pub wholeOf : List Leak → List ℕ → Whole
 wholeOf ls room = cond (ltb (length room) (length (textOf ls))) (refused room tooShort) (answered room (textOf ls) (length ls))
 
+-- what is promised of writing them: the result and the room afterwards
 pub record WrittenAs (ls : List Leak) (room : List ℕ) (result : Listed) (after : List ℕ) : Type 0 where
   pub result-is : result ≡ wholeOf ls room .result
   pub after-is : after ≡ wholeOf ls room .room

@@ -20,6 +20,7 @@ pub fn refused(number: u32, place: u32) -> listing::Listed
     }
 }
 
+// The lesser of two numbers.
 fn lesser(a: usize, b: usize) -> usize
     ensures { λ r. ⌜ (r ≡ lesserOf a b) × (r ≤ a) × (r ≤ b) ⌝ }
 {
