@@ -59,19 +59,19 @@ cannot() { # message
     exit 3
 }
 
-# Writes one line over the one before, cut to the terminal's width.
+# Writes one line over the one before, cut to the terminal's width less what the terminal itself may put behind it, ^C.
 in_place() { # text
     local width text
     width="$(stty size <&2 2>/dev/null)" || width=
     width="${width#* }"
-    [ "${width:-0}" -gt 1 ] || width=80
-    text="${1:0:width-1}"
+    [ "${width:-0}" -gt 3 ] || width=80
+    text="${1:0:width-3}"
     printf '\r%-*s' "${#shown}" "$text" >&2 || :
     shown="$text"
 }
 
 erase() {
-    [ -z "$shown" ] || printf '\r%*s\r' "${#shown}" '' >&2 || :
+    [ -z "$shown" ] || printf '\r%*s\r' $((${#shown} + 2)) '' >&2 || :
     shown=
 }
 

@@ -67,7 +67,7 @@ tool() { # name, what it does
 }
 tool uname 'echo x86_64'
 echo 'a kit' >"$scratch/kit"
-# rt notes its calls and reads all that it can. Then it does what is said, by default what rt does: a crate is proved if it has changed, or what it needs.
+# rt notes its calls and all that it can read. Then it does what is said, by default what rt does: a crate is proved if it has changed, or what it needs.
 # A library is a copy of its source, and the program prints a line with the numbers of all three.
 cat >"$scratch/as_rt" <<'END'
 proves() { # crate, stamps of what it needs
@@ -102,7 +102,7 @@ END
 declare -f await >>"$scratch/as_rt"
 rt() { # what it does, over what as_rt has
     tool rt "case \"\$1\" in version) read -r kit <$scratch/kit; echo \"\$kit\"; exit ;; doc) exit 2 ;; esac
-        echo \"\$PWD \$* \$RT_JOBS\" >>$scratch/calls; cat; echo some output; . $scratch/as_rt; $1"
+        echo \"\$PWD \$* \$RT_JOBS\" >>$scratch/calls; cat >>$scratch/calls; echo some output; . $scratch/as_rt; $1"
 }
 in_tree() { # command
     env PATH="$tree/tools" "$@"
