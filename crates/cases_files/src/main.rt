@@ -2,72 +2,6 @@
 // bytes, two digits each. A line of the output has number and place of the check, then of the recording number, place, id, first, count, set and last, eight digits each, then the part's
 // bytes, and each of its coordinates by the sixteen digits of its double.
 
-// What is read of a line so far: the recording's number, whether the file's bytes have begun, and how many digits of theirs there were.
-struct Line {
-    k: u64,
-    begun: bool,
-    digits: usize,
-}
-
-fn begin() -> Line {
-    Line {
-        k: 0,
-        begun: false,
-        digits: 0,
-    }
-}
-
-fn digit(b: u8) -> u8 {
-    if 48 <= b && b <= 57 {
-        return b - 48;
-    }
-    if 97 <= b && b <= 102 {
-        return b - 87;
-    }
-    0
-}
-
-// The line with one more byte read.
-fn fed(line: Line, b: u8) -> Line {
-    let k = line.k;
-    let digits = line.digits;
-    let mut next = line;
-    if b == 32 {
-        next.begun = true;
-        return next;
-    }
-    if line.begun {
-        if digits < 8192 {
-            next.digits = digits + 1;
-        }
-        return next;
-    }
-    next.k = (k << 4) | (digit(b) as u64);
-    next
-}
-
-// The file's bytes with one more digit, if it is one of theirs.
-fn put(file: &mut [u8], line: Line, b: u8) {
-    let at = line.digits / 2;
-    if line.begun {
-        if at < file.len() {
-            if line.digits % 2 == 0 {
-                file[at] = digit(b) << 4;
-            } else {
-                file[at] = file[at] | digit(b);
-            }
-        }
-    }
-}
-
-// The bits of a double, the same ones for any NaN.
-fn bits_of(x: f64) -> u64 {
-    if x == x {
-        return f64::to_bits(x);
-    }
-    0x7ff8000000000000
-}
-
 fn write_number(n: u32) {
     io::print_hex(1, n as u64, 8);
     io::write_all(1, b" ");
@@ -89,7 +23,7 @@ fn write_coordinates(part: &[u8]) {
     let mut j = 0;
     while j < part.len() / 4 {
         io::write_all(1, b" ");
-        io::print_hex(1, bits_of(recordings::f64_at(part, 4 * j)), 16);
+        io::print_hex(1, cases::bits_of(reading::f64_at(part, 4 * j)), 16);
         j += 1;
     }
 }
@@ -105,7 +39,7 @@ fn write_recording(r: layout::Recording) {
 }
 
 // One case: a file, and the number of a recording.
-fn run(file: &[u8], k: usize) {
+fn answer(file: &[u8], k: usize) {
     let v = footprint::check(file);
     write_number(v.number);
     write_number(v.place);
@@ -116,38 +50,24 @@ fn run(file: &[u8], k: usize) {
     io::write_all(1, b"\n");
 }
 
-// The first n of these bytes are the file.
-fn run_front(bytes: &[u8], n: usize, k: usize) {
-    if n <= bytes.len() {
-        run(&bytes[0..n], k);
+// The case of a line, whose file is laid in the room.
+fn run(line: &[u8], room: &mut [u8]) {
+    let head = cases::until(line, 0, b' ');
+    let at = head.len();
+    if at < line.len() {
+        let n = cases::bytes_of(cases::until(line, at + 1, b' '), room);
+        answer(&room[0..n], cases::number_of(head) as usize);
     }
-}
-
-// The line with one more byte read; at its end the case is run and another line begins.
-fn turn(b: u8, file: &mut [u8], line: Line) -> Line {
-    if b == 10 {
-        run_front(file, line.digits / 2, line.k as usize);
-        return begin();
-    }
-    put(file, line, b);
-    fed(line, b)
-}
-
-fn byte_of(text: &[u8], i: usize) -> u8 {
-    if i < text.len() {
-        return text[i];
-    }
-    10
 }
 
 fn main() {
     let mut text = [0u8; 131072];
-    let mut file = [0u8; 4096];
+    let mut room = [0u8; 4096];
     let n = io::read_full(0, &mut text);
-    let mut line = begin();
-    let mut i = 0;
-    while i < n {
-        line = turn(byte_of(&text, i), &mut file, line);
-        i += 1;
+    let mut at: usize = 0;
+    while at < n {
+        let line = cases::until(&text[0..n], at, b'\n');
+        run(line, &mut room);
+        at = at + line.len() + 1;
     }
 }

@@ -2,75 +2,6 @@
 // values, all as hexadecimal digits of their bits, with a space before each value. A line of the output has number, n, area, nine flags and the
 // room as it is afterwards; value k of the room is lent as 1000 + k.
 
-// What is read of a line: the bits of the number that is being read, how many numbers came before it, the first of them, and the others.
-struct Line {
-    bits: u64,
-    count: usize,
-    room: usize,
-    values: [f64; 32],
-}
-
-fn begin() -> Line {
-    Line {
-        bits: 0,
-        count: 0,
-        room: 0,
-        values: [0.0; 32],
-    }
-}
-
-// The double with these bits, any NaN's standing for NaN.
-fn value_of(bits: u64) -> f64 {
-    if bits % 9223372036854775808 / 4503599627370496 == 2047 {
-        if bits % 4503599627370496 == 0 {
-            return f64::from_bits(bits);
-        }
-        return 0.0 / 0.0;
-    }
-    f64::from_bits(bits)
-}
-
-// The bits of a double, the same ones for any NaN.
-fn bits_of(x: f64) -> u64 {
-    if x == x {
-        return f64::to_bits(x);
-    }
-    0x7ff8000000000000
-}
-
-// The line with one more number read, if there is room for it.
-fn ended(line: Line) -> Line {
-    let n = line.count;
-    let bits = line.bits;
-    let mut next = line;
-    next.bits = 0;
-    if n == 0 {
-        next.room = (bits & 31) as usize;
-        next.count = 1;
-        return next;
-    }
-    if n <= 32 {
-        next.values[n - 1] = value_of(bits);
-        next.count = n + 1;
-    }
-    next
-}
-
-// The line with one more byte read: a hexadecimal digit, or the end of a number.
-fn fed(line: Line, b: u8) -> Line {
-    let bits = line.bits;
-    let mut next = line;
-    if 48 <= b && b <= 57 {
-        next.bits = (bits << 4) | ((b - 48) as u64);
-        return next;
-    }
-    if 97 <= b && b <= 102 {
-        next.bits = (bits << 4) | ((b - 87) as u64);
-        return next;
-    }
-    ended(line)
-}
-
 // The room as it is lent.
 fn lent() -> [f64; 32] {
     let mut room = [0.0; 32];
@@ -84,7 +15,7 @@ fn lent() -> [f64; 32] {
 
 fn write_value(x: f64) {
     io::write_all(1, b" ");
-    io::print_hex(1, bits_of(x), 16);
+    io::print_hex(1, cases::bits_of(x), 16);
 }
 
 fn write_flag(flag: bool) {
@@ -137,32 +68,45 @@ fn answer_of(values: &[f64], n: usize, room: &mut [f64], length: usize) -> trian
     routine::intersect(values, room)
 }
 
-// One case: the values of a line, with a room of the length that it asks for.
-fn run(line: Line) {
-    let count = line.count;
-    let length = line.room;
-    let values = line.values;
-    let mut room = lent();
-    if 1 <= count {
-        write_answer(answer_of(&values, count - 1, &mut room, length));
-        write_room(&room, length);
+// One more value, if there is room for it; how many there are.
+fn put_value(values: &mut [f64], n: usize, x: f64) -> usize {
+    if n < values.len() {
+        values[n] = x;
+        return n + 1;
     }
+    n
+}
+
+// The values of a line, each behind a space, from a place on; how many.
+fn put_values(values: &mut [f64], line: &[u8], from: usize) -> usize {
+    let mut n: usize = 0;
+    let mut at = from;
+    while at < line.len() {
+        let word = cases::until(line, at + 1, b' ');
+        n = put_value(values, n, cases::value_of(cases::number_of(word)));
+        at = at + 1 + word.len();
+    }
+    n
+}
+
+// The case of a line: a room's length, and values.
+fn run(line: &[u8]) {
+    let head = cases::until(line, 0, b' ');
+    let length = (cases::number_of(head) % 32) as usize;
+    let mut values = [0.0; 32];
+    let n = put_values(&mut values, line, head.len());
+    let mut room = lent();
+    write_answer(answer_of(&values, n, &mut room, length));
+    write_room(&room, length);
 }
 
 fn main() {
     let mut text = [0u8; 131072];
     let n = io::read_full(0, &mut text);
-    let mut line = begin();
-    let mut i = 0;
-    while i < n {
-        if i < 131072 {
-            let b = text[i];
-            line = fed(line, b);
-            if b == 10 {
-                run(line);
-                line = begin();
-            }
-        }
-        i += 1;
+    let mut at: usize = 0;
+    while at < n {
+        let line = cases::until(&text[0..n], at, b'\n');
+        run(line);
+        at = at + line.len() + 1;
     }
 }

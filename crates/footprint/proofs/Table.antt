@@ -4,6 +4,8 @@ use mathlib.Core.Path.{_≡_, refl, sym, ap, _∙_}
 use mathlib.Core.Bool.{Bool, true, false, not, _||_, cond}
 use mathlib.Core.List.{List, [], _∷_, _++_}
 use native.Mathlib.Omega.{arith}
+use native.Mathlib.Nat.{add-zero}
+use lib.ListN.{take, drop}
 use lib.Dec.{eqb, ltb}
 use borrow.Author.Tests.{eq-eqb, ne-eqb, eqb-true}
 use Rattle.floats.specs.Lists.{any}
@@ -13,6 +15,7 @@ use Rattle.layout.specs.Rules.{isBadEntry, isSeen, entryRule}
 use Rattle.layout.specs.Verdict.{badEntry, idAgain, wrongEnd, idsBefore, test, placeOf, inTurn, firstOf, said, good}
 use Rattle.layout.specs.Stages.{tableRows, entryNumber}
 use Rattle.layout.specs.declared.Entry.{Entry}
+use Rattle.layout.proofs.Slices.{four-part, entry-part}
 
 module _ (file : List ℕ) {table : ℕ} (at-table : table ≡ tablePlace file) where
   pub place-is : (i : ℕ) → table + 12 * i ≡ entryPlace file i
@@ -42,6 +45,13 @@ module _ (file : List ℕ) {table : ℕ} (at-table : table ≡ tablePlace file) 
 
 pub seen-none : (file : List ℕ) (j id : ℕ) → j ≤ 0 → false ≡ isSeen id (idsBefore file j)
 seen-none file j id h = let q : j ≡ 0 = omega arith in rw q (unfold isSeen idsBefore any in refl)
+
+-- an id and an entry are read where they were cut out
+pub id-cut : (file : List ℕ) (at : ℕ) {v : ℕ} → v ≡ u32At (take (at + 4 - at) (drop at file)) 0 → v ≡ u32At file at
+id-cut file at h = h ∙ (four-part file at (at + 4 - at) 0 (omega arith) ∙ ap (u32At file) (add-zero at))
+
+pub entry-cut : (file : List ℕ) (at : ℕ) {e : Entry} → e ≡ entryFrom (take (at + 12 - at) (drop at file)) 0 → e ≡ entryFrom file at
+entry-cut file at h = h ∙ (entry-part file at (at + 12 - at) 0 (omega arith) ∙ ap (entryFrom file) (add-zero at))
 
 -- an entry that is not refused begins where those before it end
 starts : (e : Entry) (end : ℕ) (seen : Bool) → entryRule e end seen ≡ 0 → e .first ≡ end

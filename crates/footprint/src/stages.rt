@@ -1,45 +1,11 @@
-// The stages of a file's verdict: the trailer, the entries of the table, the triangles.
+// The stages of a file's verdict: the trailer, the entries of the table, the triangles. An entry or a triangle is cut out before it is read: the reader then looks at no length, as it knows the part's.
 ghost use mathlib.Core.Path.{_≡_};
 ghost use Prim.Native.Nat.{_+_, _*_, _≤_, _<_};
 ghost use lib.ListN.{length};
-ghost use Rattle.layout.specs.Bytes.{u16At, u32At};
-ghost use Rattle.layout.specs.Parts.{entryFrom, tablePlace, countOf, triangleFrom};
+ghost use Rattle.layout.specs.Parts.{tablePlace, countOf, triangleFrom};
 ghost use Rattle.layout.specs.Rules.{isSeen, triangleRule};
 ghost use Rattle.layout.specs.Verdict.{idsBefore, firstOf, said, good};
 ghost use Rattle.layout.specs.Stages.{trailerRows, tableRows, triangleRows};
-
-// The numbers at a place that is known to lie in the file.
-fn u16_in(file: &[u8], at: usize) -> u32
-    requires { ⌜ at + 2 ≤ length (now file) ⌝ }
-    ensures { λ r. ⌜ (r ≡ u16At (now (file .entry)) at) × (r < 65536) ⌝ }
-{
-    judge::two(file[at], file[at + 1])
-}
-
-pub(crate) fn u32_in(file: &[u8], at: usize) -> u32
-    requires { ⌜ at + 4 ≤ length (now file) ⌝ }
-    ensures { λ r. ⌜ r ≡ u32At (now (file .entry)) at ⌝ }
-{
-    judge::four(file[at], file[at + 1], file[at + 2], file[at + 3])
-}
-
-fn entry_in(file: &[u8], at: usize) -> layout::Entry
-    requires { ⌜ at + 12 ≤ length (now file) ⌝ }
-    ensures { λ r. ⌜ (r ≡ entryFrom (now (file .entry)) at) × (r .count < 65536) ⌝ }
-{
-    let id = u32_in(file, at);
-    let first = u32_in(file, at + 4);
-    let count = u16_in(file, at + 8);
-    let set = judge::wide(file[at + 10]);
-    let last = judge::wide(file[at + 11]);
-    layout::Entry {
-        id,
-        first,
-        count,
-        set,
-        last,
-    }
-}
 
 // Where entry i stands.
 fn entry_place(table: usize, i: usize) -> usize
@@ -64,7 +30,9 @@ fn is_seen(file: &[u8], table: usize, i: usize, id: u32) -> bool
     let mut j = i;
     while 0 < j {
         j = j - 1;
-        if u32_in(file, entry_place(table, j)) == id {
+        let at = entry_place(table, j);
+        let end = at + 4;
+        if reading::u32_at(&file[at..end], 0) == id {
             return true;
         }
     }
@@ -101,14 +69,14 @@ pub(crate) fn trailer(file: &[u8]) -> layout::Verdict
     if 65536 < n {
         return refusal(11, 0);
     }
-    if u32_in(file, n - 4) as usize != n {
+    if reading::u32_at(file, n - 4) as usize != n {
         return refusal(12, 0);
     }
-    let count = u32_in(file, n - 8);
+    let count = reading::u32_at(file, n - 8);
     if 64 < count {
         return refusal(13, n - 12);
     }
-    if trailer_end(u32_in(file, n - 12), count) != n {
+    if trailer_end(reading::u32_at(file, n - 12), count) != n {
         return refusal(13, n - 12);
     }
     acceptance()
@@ -123,7 +91,8 @@ pub(crate) fn entries(file: &[u8], table: usize, count: usize) -> layout::Verdic
     let mut end: u32 = 0;
     while i < count {
         let at = entry_place(table, i);
-        let e = entry_in(file, at);
+        let behind = at + 12;
+        let e = reading::entry_at(&file[at..behind], 0);
         let seen = is_seen(file, table, i, e.id);
         let number = judge::entry_rule(e, end, seen);
         if number != 0 {
@@ -138,17 +107,16 @@ pub(crate) fn entries(file: &[u8], table: usize, count: usize) -> layout::Verdic
     acceptance()
 }
 
-// The number of the triangle at a place: 17, 18 or 0.
-fn triangle_in(file: &[u8], at: usize) -> u32
-    requires { ⌜ at + 24 ≤ length (now file) ⌝ }
-    ensures { λ r. ⌜ r ≡ triangleRule (triangleFrom (now (file .entry)) at) ⌝ }
+// The number of the triangle that these bytes begin with: 17, 18 or 0.
+fn triangle_number(bytes: &[u8]) -> u32
+    ensures { λ r. ⌜ r ≡ triangleRule (triangleFrom (now (bytes .entry)) 0) ⌝ }
 {
-    let x0 = u32_in(file, at);
-    let y0 = u32_in(file, at + 4);
-    let x1 = u32_in(file, at + 8);
-    let y1 = u32_in(file, at + 12);
-    let x2 = u32_in(file, at + 16);
-    let y2 = u32_in(file, at + 20);
+    let x0 = reading::u32_at(bytes, 0);
+    let y0 = reading::u32_at(bytes, 4);
+    let x1 = reading::u32_at(bytes, 8);
+    let y1 = reading::u32_at(bytes, 12);
+    let x2 = reading::u32_at(bytes, 16);
+    let y2 = reading::u32_at(bytes, 20);
     judge::triangle_rule(x0, y0, x1, y1, x2, y2)
 }
 
@@ -161,7 +129,8 @@ pub(crate) fn triangles(file: &[u8], table: usize) -> layout::Verdict
     let mut k: usize = 0;
     while k < n {
         let place = 24 * k;
-        let number = triangle_in(file, place);
+        let behind = place + 24;
+        let number = triangle_number(&file[place..behind]);
         if number != 0 {
             return refusal(number, place);
         }

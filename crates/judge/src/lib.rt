@@ -1,44 +1,12 @@
-// Plain numbers: from their bytes, and the rules that judge those of an entry and of a triangle. The reader, crate `footprint`, feeds them with a file's bytes.
+// The rules that judge the plain numbers of an entry and of a triangle. They know nothing of bytes: crate `footprint` asks them of what it reads in a file.
 ghost use mathlib.Core.Path.{_≡_};
-ghost use Prim.Native.Nat.{_≤_, _<_};
+ghost use Prim.Native.Nat.{_≤_};
 ghost use mathlib.Core.List.{[], _∷_};
 ghost use lib.IntN.{pos};
-ghost use Rattle.layout.specs.Bytes.{two as twoOf, four as fourOf, signed as signedOf};
+ghost use Rattle.layout.specs.Bytes.{signed as signedOf};
 ghost use Rattle.layout.specs.Parts.{triangleOf};
 ghost use Rattle.layout.specs.Code.{fromBottom, isAboveTop};
 ghost use Rattle.layout.specs.Rules.{isFlat, entryRule, triangleRule};
-
-// A byte as a number.
-pub fn wide(a: u8) -> u32
-    ensures { λ r. ⌜ r ≡ a ⌝ }
-{
-    a as u32
-}
-
-// Two bytes as a number, the lowest first.
-pub fn two(a: u8, b: u8) -> u32
-    ensures { λ r. ⌜ (r ≡ twoOf a b) × (r < 65536) ⌝ }
-{
-    a as u32 + b as u32 * 256
-}
-
-// Four bytes likewise.
-pub fn four(a: u8, b: u8, c: u8, d: u8) -> u32
-    ensures { λ r. ⌜ r ≡ fourOf a b c d ⌝ }
-{
-    a as u32 + b as u32 * 256 + c as u32 * 65536 + d as u32 * 16777216
-}
-
-// An i32 by its 32 bits.
-pub fn signed(v: u32) -> i32
-    ensures { λ r. ⌜ r ≡ signedOf v ⌝ }
-{
-    if v < 2147483648 {
-        v as i32
-    } else {
-        (v as i64 - 4294967296) as i32
-    }
-}
 
 // The number that 32 bits stand for, counted from −1,000,000: at most 2,000,000 if it is in range.
 fn from_bottom(v: u32) -> u32

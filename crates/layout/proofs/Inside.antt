@@ -4,38 +4,21 @@ use mathlib.Core.Path.{_≡_, refl, sym, ap, ap₂, subst, _∙_}
 use mathlib.Core.Bool.{Bool, true, false, cond}
 use mathlib.Core.List.{List, _++_, List·Memᴰ}
 use native.Mathlib.Omega.{arith}
-use native.Mathlib.Nat.{add-assoc}
 use lib.ListN.{length, take, drop, length-drop}
-use lib.Seq.{getD-take, getD-drop, length-take-le, take-add}
+use lib.Seq.{length-take-le, take-add}
 use lib.Dec.{T, ltb, le→leb, lt→ltb}
 use borrow.Author.Tests.{ltb-true, ltb-false, lt-ltb}
 use lib.IntN.{pos, _-ℤ_}
 use lib.Ieee.{binary64, ofInt, inFloat, inSigned, toSigned}
 use lib.Ieee.Back.{positive-back, negative-back}
-use Rattle.layout.specs.Bytes.{byteAt, u32At, signed, i32At}
+use Rattle.layout.specs.Bytes.{signed}
 use Rattle.layout.specs.Parts.{numbersOf, tablePlace, countOf, entryAt, endOf, endBefore, triangleFrom, triangleAt}
 use Rattle.layout.specs.Rules.{twiceArea}
 use Rattle.layout.specs.Layout.{Layout}
 use Rattle.layout.specs.Recordings.{bytesOf, partOf, f64At}
 use Rattle.layout.specs.Inside.{Inside, PartsInside, partsTo, PartsJoined, Unchanged}
 use Rattle.layout.proofs.Returned.{is-good, there-is}
-
--- ---- a part of a list of bytes
-module _ (file : List ℕ) (a n : ℕ) where
-  byte-part : (x : ℕ) → x < n → byteAt (take n (drop a file)) x ≡ byteAt file (a + x)
-  byte-part x h = getD-take n (drop a file) x 0 h ∙ getD-drop a file x 0
-
-  number-part : (x : ℕ) → x + 4 ≤ n → i32At (take n (drop a file)) x ≡ i32At file (a + x)
-  unfolding i32At u32At
-  number-part x h =
-      rw (byte-part x (omega arith), byte-part (x + 1) (omega arith), byte-part (x + 2) (omega arith), byte-part (x + 3) (omega arith))
-      (simp add-assoc)
-
-  triangle-part : (x : ℕ) → x + 24 ≤ n → triangleFrom (take n (drop a file)) x ≡ triangleFrom file (a + x)
-  unfolding triangleFrom
-  triangle-part x h =
-      rw (number-part x (omega arith), number-part (x + 4) (omega arith), number-part (x + 8) (omega arith), number-part (x + 12) (omega arith), number-part (x + 16) (omega arith), number-part (x + 20) (omega arith))
-      (simp add-assoc)
+use Rattle.layout.proofs.Slices.{byte-part, number-part, triangle-part}
 
 module _ (file : List ℕ) (l : Layout file) where
   -- an entry begins at a multiple of 24

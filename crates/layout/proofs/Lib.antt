@@ -3,6 +3,7 @@ pub mod Order
 pub mod Rows
 pub mod Accepted
 pub mod Returned
+pub mod Slices
 pub mod Inside
 pub mod Answered
 pub mod Size

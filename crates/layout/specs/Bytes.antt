@@ -1,10 +1,14 @@
 -- 01, "The footprint file": little-endian numbers in a list of bytes. Definitions only.
-use Prim.Native.Nat.{ℕ, _+_, _*_}
+use Prim.Native.Nat.{ℕ, _+_, _*_, _<_}
 use mathlib.Core.Bool.{cond}
 use mathlib.Core.List.{List}
 use lib.ListN.{getD}
 use lib.Dec.{ltb}
 use lib.IntN.{ℤ, pos, _-ℤ_}
+
+-- every number of the list is a byte
+abbrev pub Bytes : List ℕ → Type 0
+Bytes list = (k : ℕ) → getD list k 0 < 256
 
 -- two and four bytes, the lowest first
 abbrev pub two : ℕ → ℕ → ℕ

@@ -31,8 +31,9 @@ module _ (file : List ℕ) (k : ℕ) where
   pub by-entry : {n : ℕ} {e : Entry} → Layout file → n ≡ countOf file → k < n → e ≡ entryAt file k → answered e ≡ recordingOf file k
   by-entry l q h e = ap answered e ∙ sym (there-is file k (is-good file l) (omega arith) .0)
 
-  pub no-part : {r : Recording} → r ≡ recordingOf file k → (r .number ≡ 0 → ⊥) → [] ≡ partOf file k
-  no-part {r} h n = sym (returned-one file k (verdict file) r (partOf file k) refl h refl .noPart n)
+  -- no part: the bytes from a place to the same place
+  pub no-part : (n : ℕ) {r : Recording} → r ≡ recordingOf file k → (r .number ≡ 0 → ⊥) → take (n - n) (drop n file) ≡ partOf file k
+  no-part n {r} h z = let q : n - n ≡ 0 = omega arith in ap (λ (m : ℕ). take m (drop n file)) q ∙ sym (returned-one file k (verdict file) r (partOf file k) refl h refl .noPart z)
 
   -- the bytes from the first place to the end are those that the promise tells
   pub part-is : {r : Recording} {end : ℕ} → Demand2 file k r (partOf file k) → end ≡ r .first + 24 * r .count → take (end - r .first) (drop (r .first) file) ≡ partOf file k

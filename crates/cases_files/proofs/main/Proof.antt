@@ -1,4 +1,4 @@
--- Each turn takes one byte.
+-- Each turn takes one line.
 use mathlib.Core.Path.{_≡_}
 use Prim.Native.Nat.{_≤_, _-_}
 use lib.ListN.{length}
@@ -7,10 +7,10 @@ use Rattle.cases_files.proofs.main.Statement.{statement}
 use Rattle.cases_files.proofs.main.Tie as tie
 
 abbrev Inv-loop : tie.InvT-loop
-Inv-loop text file₀ n line₀ i₀ file line i = (i ≤ n) × (length text ≡ 131072) × (length file ≡ 4096)
+Inv-loop text room₀ n at₀ room at = (n ≤ length text) × (length text ≡ 131072) × (length room ≡ 4096)
 
 abbrev μ-loop : tie.MeasureT-loop
-μ-loop text file₀ n line₀ i₀ file line i = n - i
+μ-loop text room₀ n at₀ room at = n - at
 
 slice-aggregate-read-full : tie.Need-slice-aggregate-read-full Inv-loop μ-loop
 slice-aggregate-read-full c = search needs
@@ -18,26 +18,32 @@ slice-aggregate-read-full c = search needs
 read-full-requires : tie.Need-read-full-requires Inv-loop μ-loop
 read-full-requires c κs = search needs
 
-begin-requires : tie.Need-begin-requires Inv-loop μ-loop
-begin-requires c κs = search needs
-
 loop-holds : tie.Need-loop-holds Inv-loop μ-loop
 loop-holds c = search needs
 
-slice-aggregate-byte-of : tie.Need-slice-aggregate-byte-of Inv-loop μ-loop
-slice-aggregate-byte-of c = search needs
+sub-until : tie.Need-sub-until Inv-loop μ-loop
+sub-until c = search needs
 
-byte-of-requires : tie.Need-byte-of-requires Inv-loop μ-loop
-byte-of-requires c κs = search needs
+part-until-start : tie.Need-part-until-start Inv-loop μ-loop
+part-until-start c = search needs
 
-slice-aggregate-turn : tie.Need-slice-aggregate-turn Inv-loop μ-loop
-slice-aggregate-turn c = search needs
+part-until-end : tie.Need-part-until-end Inv-loop μ-loop
+part-until-end c = search needs
 
-turn-requires : tie.Need-turn-requires Inv-loop μ-loop
-turn-requires c κs = search needs
+until-requires : tie.Need-until-requires Inv-loop μ-loop
+until-requires c κs = search needs
 
-add-i : tie.Need-add-i Inv-loop μ-loop
-add-i c = search needs
+slice-aggregate-run : tie.Need-slice-aggregate-run Inv-loop μ-loop
+slice-aggregate-run c = search needs
+
+run-requires : tie.Need-run-requires Inv-loop μ-loop
+run-requires c κs = search needs
+
+add-at : tie.Need-add-at Inv-loop μ-loop
+add-at c = search needs
+
+add-at-2 : tie.Need-add-at-2 Inv-loop μ-loop
+add-at-2 c = search needs
 
 loop-less : tie.Need-loop-less Inv-loop μ-loop
 loop-less c = search needs
@@ -56,13 +62,15 @@ main-spec =
     μ-loop
     slice-aggregate-read-full
     read-full-requires
-    begin-requires
     loop-holds
-    slice-aggregate-byte-of
-    byte-of-requires
-    slice-aggregate-turn
-    turn-requires
-    add-i
+    sub-until
+    part-until-start
+    part-until-end
+    until-requires
+    slice-aggregate-run
+    run-requires
+    add-at
+    add-at-2
     loop-less
     loop-again
     returns)

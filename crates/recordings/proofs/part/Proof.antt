@@ -2,6 +2,7 @@
 use borrow.Author.Needs.{needs}
 use native.Mathlib.Omega.{arith}
 use denote.Ref.{now}
+use lib.ListN.{length}
 use mathlib.Core.Path.{refl}
 use Rattle.layout.specs.Recordings.{partOf}
 use Rattle.layout.specs.Promise.{Demand2}
@@ -26,7 +27,7 @@ part-result-end : tie.Need-part-result-end
 part-result-end c = search needs
 
 returns : tie.Need-returns
-returns c = no-part _ _ (c .before .before .before .recording .ensures) (c .before .if1 .taken)
+returns c = let g = c .before .before .before .before .before .args in no-part (now (g .file)) (g .k) (length (now (g .file))) (c .before .before .before .recording .ensures) (c .before .if1 .taken)
 
 cast-a : tie.Need-cast-a
 cast-a c = search needs

@@ -2,7 +2,7 @@
 use native.Mathlib.Omega.{arith}
 use denote.Ref.{now}
 use Rattle.layout.specs.Layout.{Layout}
-use Rattle.footprint.proofs.Judge.{table-read, count-read}
+use Rattle.footprint.proofs.Verdicts.{table-read, count-read}
 use Rattle.footprint.proofs.Table.{entry-is}
 use Rattle.recordings.proofs.Recorded.{layout-of, by-verdict, no-recording, by-entry}
 use borrow.Author.Needs.{needs}
@@ -34,7 +34,7 @@ refused-requires-2 : tie.Need-refused-requires-2
 refused-requires-2 c κs = search needs
 
 returns-2 : tie.Need-returns-2
-returns-2 c = no-recording _ _ (good (c .before .before .before)) (count-read _ (c .before .before .u32-at .ensures)) (c .before .if2 .taken) (c .refused2 .ensures)
+returns-2 c = no-recording _ _ (good (c .before .before .before)) (count-read _ (c .before .before .u32-at .ensures)) (omega (arith, c .before .if2 .taken)) (c .refused2 .ensures)
 
 sub-u32-at-2 : tie.Need-sub-u32-at-2
 sub-u32-at-2 c = let g = good (c .before .before) in omega (arith, g .atLeast12)

@@ -9,24 +9,36 @@ use Rattle.layout.specs.Parts.{endBefore, entryFrom, entryPlace}
 use Rattle.layout.specs.Verdict.{badEntry, idAgain, wrongEnd, inTurn, firstOf}
 use Rattle.layout.specs.Stages.{tableRows, entryNumber}
 use Rattle.layout.proofs.Stages.{entry-says, stops, goes-on, ended}
-use Rattle.footprint.proofs.Table.{place-is, entry-is, number-is, end-is, at-start, wrong-end, right-end}
+use Rattle.footprint.proofs.Table.{place-is, entry-is, entry-cut, number-is, end-is, at-start, wrong-end, right-end}
 use Rattle.footprint.proofs.stages.entries.Statement.{statement}
 use Rattle.footprint.proofs.stages.entries.Tie as tie
 
 abbrev Inv-loop : tie.InvT-loop
-Inv-loop file table count i₀ end₀ i end = (i ≤ count) × (end ≤ 1572840 * i) × (end ≡ endBefore file i) × (firstOf file (tableRows file) ≡ firstOf file (inTurn badEntry idAgain (count - i) i ++ (wrongEnd ∷ [])))
+Inv-loop file table count i₀ end₀ i end = (firstOf file (tableRows file) ≡ firstOf file (inTurn badEntry idAgain (count - i) i ++ (wrongEnd ∷ []))) × (end ≡ endBefore file i) × (i ≤ count) × (end ≤ 1572840 * i)
 
 abbrev μ-loop : tie.MeasureT-loop
 μ-loop file table count i₀ end₀ i end = count - i
 
 loop-holds : tie.Need-loop-holds Inv-loop μ-loop
-loop-holds c = (omega arith, omega arith, unfold endBefore in refl, at-start _ (c .before .pre .2))
+loop-holds c = (at-start _ (c .before .pre .2), unfold endBefore in refl, omega arith, omega arith)
 
 entry-place-requires : tie.Need-entry-place-requires Inv-loop μ-loop
 entry-place-requires c κs = search needs
 
-entry-in-requires : tie.Need-entry-in-requires Inv-loop μ-loop
-entry-in-requires c κs = search needs
+add-behind : tie.Need-add-behind Inv-loop μ-loop
+add-behind c = search needs
+
+sub-entry-at : tie.Need-sub-entry-at Inv-loop μ-loop
+sub-entry-at c = search needs
+
+part-entry-at-start : tie.Need-part-entry-at-start Inv-loop μ-loop
+part-entry-at-start c = search needs
+
+part-entry-at-end : tie.Need-part-entry-at-end Inv-loop μ-loop
+part-entry-at-end c = search needs
+
+entry-at-requires : tie.Need-entry-at-requires Inv-loop μ-loop
+entry-at-requires c κs = search needs
 
 is-seen-requires : tie.Need-is-seen-requires Inv-loop μ-loop
 is-seen-requires c κs = search needs
@@ -41,12 +53,13 @@ returns : tie.Need-returns Inv-loop μ-loop
 returns c =
     let r = c .before .before in
     let e = r .before .before in
-    let at = e .before .entry-place .ensures in
-    let l = e .before .before .before .loop in
-    let b = e .before .before .before .before .before in
+    let p = e .before .before in
+    let at = p .entry-place .ensures in
+    let l = p .before .before .loop in
+    let b = p .before .before .before .before in
     let file = now (b .args .file) in
-    let number = number-is file (b .pre .1) (l .i) (e .entry-in .result) (l .end) (r .before .is-seen .result) (e .entry-in .ensures .0 ∙ ap (entryFrom file) at) (l .inv .2) (r .before .is-seen .ensures) (r .entry-rule .ensures) in
-    c .refusal .ensures ∙ (stops file badEntry idAgain (entryNumber file) (entryPlace file) (entry-says file) (b .args .count) (l .i) (wrongEnd ∷ []) (e .before .before .loop-test .taken) number (at ∙ place-is file (b .pre .1) (l .i)) (c .before .if1 .taken) ∙ sym (l .inv .3))
+    let number = number-is file (b .pre .1) (l .i) (e .entry-at .result) (l .end) (r .before .is-seen .result) (entry-cut file (p .entry-place .result) (e .entry-at .ensures .0) ∙ ap (entryFrom file) at) (l .inv .1) (r .before .is-seen .ensures) (r .entry-rule .ensures) in
+    c .refusal .ensures ∙ (stops file badEntry idAgain (entryNumber file) (entryPlace file) (entry-says file) (b .args .count) (l .i) (wrongEnd ∷ []) (p .before .loop-test .taken) number (at ∙ place-is file (b .pre .1) (l .i)) (c .before .if1 .taken) ∙ sym (l .inv .0))
 
 mul-end : tie.Need-mul-end Inv-loop μ-loop
 mul-end c = search needs
@@ -64,16 +77,17 @@ loop-again : tie.Need-loop-again Inv-loop μ-loop
 loop-again c =
     let t = c .before .before in
     let e = t .before .before in
-    let l = e .before .before .before .loop in
-    let b = e .before .before .before .before .before in
+    let p = e .before .before in
+    let l = p .before .before .loop in
+    let b = p .before .before .before .before in
     let file = now (b .args .file) in
-    let read = e .entry-in .ensures .0 ∙ ap (entryFrom file) (e .before .entry-place .ensures) in
-    let number = number-is file (b .pre .1) (l .i) (e .entry-in .result) (l .end) (t .before .is-seen .result) read (l .inv .2) (t .before .is-seen .ensures) (t .entry-rule .ensures) in
+    let read = entry-cut file (p .entry-place .result) (e .entry-at .ensures .0) ∙ ap (entryFrom file) (p .entry-place .ensures) in
+    let number = number-is file (b .pre .1) (l .i) (e .entry-at .result) (l .end) (t .before .is-seen .result) read (l .inv .1) (t .before .is-seen .ensures) (t .entry-rule .ensures) in
     let z = c .before .if1 .left in (
+      l .inv .0 ∙ goes-on file badEntry idAgain (entryNumber file) (entryPlace file) (entry-says file) (b .args .count) (l .i) (wrongEnd ∷ []) (p .before .loop-test .taken) number z,
+      end-is file (l .i) (e .entry-at .result) (l .end) (t .before .is-seen .result) (entry-is file (b .pre .1) (l .i) read) (t .entry-rule .ensures) z,
       omega arith,
-      omega (arith, e .entry-in .ensures .1, l .inv .1),
-      end-is file (l .i) (e .entry-in .result) (l .end) (t .before .is-seen .result) (entry-is file (b .pre .1) (l .i) read) (t .entry-rule .ensures) z,
-      l .inv .3 ∙ goes-on file badEntry idAgain (entryNumber file) (entryPlace file) (entry-says file) (b .args .count) (l .i) (wrongEnd ∷ []) (e .before .before .loop-test .taken) number z,
+      omega (arith, e .entry-at .ensures .1, l .inv .3),
     )
 
 cast-if2 : tie.Need-cast-if2 Inv-loop μ-loop
@@ -88,7 +102,7 @@ returns-2 c =
     let l = c .before .before .before .loop in
     let b = c .before .before .before .before .before in
     let file = now (b .args .file) in
-    c .refusal2 .ensures ∙ (wrong-end file (b .pre .2) (b .pre .1) (l .inv .2) (l .inv .0) h (c .before .if2 .taken) ∙ sym (l .inv .3 ∙ ended file badEntry idAgain (entryNumber file) (entryPlace file) (entry-says file) (b .args .count) (l .i) (wrongEnd ∷ []) h))
+    c .refusal2 .ensures ∙ (wrong-end file (b .pre .2) (b .pre .1) (l .inv .1) (l .inv .2) h (c .before .if2 .taken) ∙ sym (l .inv .0 ∙ ended file badEntry idAgain (entryNumber file) (entryPlace file) (entry-says file) (b .args .count) (l .i) (wrongEnd ∷ []) h))
 
 acceptance-requires : tie.Need-acceptance-requires Inv-loop μ-loop
 acceptance-requires c κs = search needs
@@ -99,7 +113,7 @@ returns-3 c =
     let l = c .before .before .before .loop in
     let b = c .before .before .before .before .before in
     let file = now (b .args .file) in
-    c .acceptance .ensures ∙ (right-end file (b .pre .2) (b .pre .1) (l .inv .2) (l .inv .0) h (c .before .if2 .left) ∙ sym (l .inv .3 ∙ ended file badEntry idAgain (entryNumber file) (entryPlace file) (entry-says file) (b .args .count) (l .i) (wrongEnd ∷ []) h))
+    c .acceptance .ensures ∙ (right-end file (b .pre .2) (b .pre .1) (l .inv .1) (l .inv .2) h (c .before .if2 .left) ∙ sym (l .inv .0 ∙ ended file badEntry idAgain (entryNumber file) (entryPlace file) (entry-says file) (b .args .count) (l .i) (wrongEnd ∷ []) h))
 
 pub entries-spec : {M : Type 1} → statement M
 entries-spec =
@@ -109,7 +123,11 @@ entries-spec =
     μ-loop
     loop-holds
     entry-place-requires
-    entry-in-requires
+    add-behind
+    sub-entry-at
+    part-entry-at-start
+    part-entry-at-end
+    entry-at-requires
     is-seen-requires
     entry-rule-requires
     refusal-requires

@@ -9,7 +9,7 @@ use Rattle.layout.specs.Parts.{trianglePlace}
 use Rattle.layout.specs.Verdict.{outOfRange, flat, inTurn, firstOf}
 use Rattle.layout.specs.Stages.{triangleRows, triangleNumber}
 use Rattle.layout.proofs.Stages.{triangle-says, stops, goes-on, ended}
-use Rattle.footprint.proofs.Judge.{from-start, triangle-number}
+use Rattle.footprint.proofs.Verdicts.{from-start, triangle-cut}
 use Rattle.footprint.proofs.stages.triangles.Statement.{statement}
 use Rattle.footprint.proofs.stages.triangles.Tie as tie
 
@@ -25,8 +25,20 @@ loop-holds c = (omega arith, from-start _ (c .before .pre .0))
 mul-place : tie.Need-mul-place Inv-loop μ-loop
 mul-place c = search needs
 
-triangle-in-requires : tie.Need-triangle-in-requires Inv-loop μ-loop
-triangle-in-requires c κs = search needs
+add-behind : tie.Need-add-behind Inv-loop μ-loop
+add-behind c = search needs
+
+sub-triangle-number : tie.Need-sub-triangle-number Inv-loop μ-loop
+sub-triangle-number c = search needs
+
+part-triangle-number-start : tie.Need-part-triangle-number-start Inv-loop μ-loop
+part-triangle-number-start c = search needs
+
+part-triangle-number-end : tie.Need-part-triangle-number-end Inv-loop μ-loop
+part-triangle-number-end c = search needs
+
+triangle-number-requires : tie.Need-triangle-number-requires Inv-loop μ-loop
+triangle-number-requires c κs = search needs
 
 refusal-requires : tie.Need-refusal-requires Inv-loop μ-loop
 refusal-requires c κs = search needs
@@ -34,10 +46,10 @@ refusal-requires c κs = search needs
 returns : tie.Need-returns Inv-loop μ-loop
 returns c =
     let t = c .before .before in
-    let l = t .before .before .loop in
-    let b = t .before .before .before .before in
+    let l = t .before .before .before .loop in
+    let b = t .before .before .before .before .before in
     let file = now (b .args .file) in
-    c .refusal .ensures ∙ (stops file outOfRange flat (triangleNumber file) trianglePlace (triangle-says file) (b .args .table / 24) (l .k) [] (t .before .loop-test .taken) (triangle-number file (l .k) (t .triangle-in .ensures)) refl (c .before .if1 .taken) ∙ sym (l .inv .1))
+    c .refusal .ensures ∙ (stops file outOfRange flat (triangleNumber file) trianglePlace (triangle-says file) (b .args .table / 24) (l .k) [] (omega (arith, t .before .before .loop-test .taken)) (triangle-cut file (l .k) (t .triangle-number .ensures)) refl (c .before .if1 .taken) ∙ sym (l .inv .1))
 
 add-k : tie.Need-add-k Inv-loop μ-loop
 add-k c = search needs
@@ -47,10 +59,10 @@ loop-less c = search needs
 
 loop-again : tie.Need-loop-again Inv-loop μ-loop
 loop-again c =
-    let l = c .before .before .before .loop in
-    let b = c .before .before .before .before .before in
+    let l = c .before .before .before .before .loop in
+    let b = c .before .before .before .before .before .before in
     let file = now (b .args .file) in
-    (omega arith, l .inv .1 ∙ goes-on file outOfRange flat (triangleNumber file) trianglePlace (triangle-says file) (b .args .table / 24) (l .k) [] (c .before .before .loop-test .taken) (triangle-number file (l .k) (c .before .triangle-in .ensures)) (c .if1 .left))
+    (omega arith, l .inv .1 ∙ goes-on file outOfRange flat (triangleNumber file) trianglePlace (triangle-says file) (b .args .table / 24) (l .k) [] (omega (arith, c .before .before .before .loop-test .taken)) (triangle-cut file (l .k) (c .before .triangle-number .ensures)) (c .if1 .left))
 
 acceptance-requires : tie.Need-acceptance-requires Inv-loop μ-loop
 acceptance-requires c κs = search needs
@@ -70,7 +82,11 @@ triangles-spec =
     μ-loop
     loop-holds
     mul-place
-    triangle-in-requires
+    add-behind
+    sub-triangle-number
+    part-triangle-number-start
+    part-triangle-number-end
+    triangle-number-requires
     refusal-requires
     returns
     add-k

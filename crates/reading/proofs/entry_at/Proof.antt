@@ -1,0 +1,87 @@
+-- No byte is there, or some are.
+use denote.Ref.{now}
+use mathlib.Core.Path.{_≡_, ap, _∙_}
+use native.Mathlib.Omega.{arith}
+use Prim.Native.Nat.{ℕ, _+_}
+use mathlib.Core.List.{List}
+use Rattle.layout.specs.Bytes.{two, u16At, byteAt}
+use Rattle.reading.proofs.Beyond.{two-read, entry-read, no-entry}
+use borrow.Author.Needs.{needs}
+use Rattle.reading.proofs.entry_at.Statement.{statement}
+use Rattle.reading.proofs.entry_at.Tie as tie
+
+-- two bytes, the lowest first, from eight bytes on
+count-is : (bytes : List ℕ) (at : ℕ) {a b r : ℕ} → a ≡ byteAt bytes (at + 8) → b ≡ byteAt bytes (at + 9) → r ≡ two a b → r ≡ u16At bytes (at + 8)
+unfolding u16At
+count-is bytes at p q h = let n : at + 9 ≡ at + 8 + 1 = omega arith in two-read p (q ∙ ap (byteAt bytes) n) h
+
+returns : tie.Need-returns
+returns c = let g = c .before .before .args in (no-entry (now (g .bytes)) (g .at) (c .if1 .taken), omega arith)
+
+u32-at-requires : tie.Need-u32-at-requires
+u32-at-requires c κs = search needs
+
+add-u32-at : tie.Need-add-u32-at
+add-u32-at c = search needs
+
+u32-at-requires-2 : tie.Need-u32-at-requires-2
+u32-at-requires-2 c κs = search needs
+
+add-byte-at : tie.Need-add-byte-at
+add-byte-at c = search needs
+
+byte-at-requires : tie.Need-byte-at-requires
+byte-at-requires c κs = search needs
+
+add-byte-at-2 : tie.Need-add-byte-at-2
+add-byte-at-2 c = search needs
+
+byte-at-requires-2 : tie.Need-byte-at-requires-2
+byte-at-requires-2 c κs = search needs
+
+two-requires : tie.Need-two-requires
+two-requires c κs = search needs
+
+add-byte-at-3 : tie.Need-add-byte-at-3
+add-byte-at-3 c = search needs
+
+byte-at-requires-3 : tie.Need-byte-at-requires-3
+byte-at-requires-3 c κs = search needs
+
+wide-requires : tie.Need-wide-requires
+wide-requires c κs = search needs
+
+add-byte-at-4 : tie.Need-add-byte-at-4
+add-byte-at-4 c = search needs
+
+byte-at-requires-4 : tie.Need-byte-at-requires-4
+byte-at-requires-4 c κs = search needs
+
+wide-requires-2 : tie.Need-wide-requires-2
+wide-requires-2 c κs = search needs
+
+returns-2 : tie.Need-returns-2
+returns-2 c = let g = c .before .before .before .before .before .before .before .before .before .before .before .args in
+    let n = c .before .before .before .before .two .ensures in
+    (entry-read (now (g .bytes)) (g .at) (c .before .before .before .before .before .before .before .before .u32-at .ensures) (c .before .before .before .before .before .before .before .u32-at2 .ensures) (count-is (now (g .bytes)) (g .at) (c .before .before .before .before .before .before .byte-at .ensures) (c .before .before .before .before .before .byte-at2 .ensures) (n .0)) (c .before .before .wide .ensures ∙ c .before .before .before .byte-at3 .ensures) (c .wide2 .ensures ∙ c .before .byte-at4 .ensures), n .1)
+
+pub entry-at-spec : {M : Type 1} → statement M
+entry-at-spec =
+    tie.close
+    (tie.spec
+    returns
+    u32-at-requires
+    add-u32-at
+    u32-at-requires-2
+    add-byte-at
+    byte-at-requires
+    add-byte-at-2
+    byte-at-requires-2
+    two-requires
+    add-byte-at-3
+    byte-at-requires-3
+    wide-requires
+    add-byte-at-4
+    byte-at-requires-4
+    wide-requires-2
+    returns-2)
