@@ -1,5 +1,5 @@
 -- A word grows byte by byte to its stop, a number digit by digit, and a room is filled byte by byte to its end. Assumes nothing.
-use Prim.Native.Nat.{ℕ, zero, suc, _+_, _-_, _*_, _%_, _<_, _≤_}
+use Prim.Native.Nat.{ℕ, zero, suc, _+_, _-_, _*_, _/_, _%_, _<_, _≤_}
 use mathlib.Core.Path.{_≡_, refl, sym, ap, _∙_}
 use mathlib.Core.List.{List, [], _∷_, _++_, append-nil}
 use native.Mathlib.Omega.{arith}
@@ -8,7 +8,7 @@ use native.Mathlib.Numerals.{add-one}
 use lib.ListN.{length, getD, set, take, drop, length-take, length-drop}
 use lib.Seq.{sets, take-suc, drop-cons, drop-nil, append-snoc, getD-drop, sets-eq}
 use borrow.Author.Tests.{eq-eqb, ne-eqb}
-use Rattle.cases.specs.Digits.{digitAt, numberTo, numberOf, byteOf, bytesFrom, fitting, filled}
+use Rattle.cases.specs.Digits.{digitAt, numberTo, numberOf, byteOf, bytesFrom, fitting, filled, glyph, digitsFrom, spelt, lettered}
 use Rattle.cases.specs.Words.{before, until}
 
 -- beyond the end nothing is left
@@ -90,6 +90,35 @@ fill-end text room₀ room n k e h z p = sym (none (n - k) k (omega arith)) ∙ 
 
     whole : take 0 room₀ ++ bytesFrom text n 0 ++ drop (0 + length (bytesFrom text n 0)) room₀ ≡ filled text room₀
     whole = let q : 0 + length (bytesFrom text n 0) ≡ n = (let r = bytes-length text n 0 in omega (arith, r)) in rw (q, e) refl
+
+-- ---- the same with the digits of bytes
+digits-length : (bytes : List ℕ) (m k : ℕ) → length (digitsFrom bytes m k) ≡ 2 * m
+unfolding digitsFrom
+digits-length bytes zero k = refl
+digits-length bytes (suc m) k = let l = digits-length bytes m (k + 1) in omega (arith, l)
+
+pub spell-start : (bytes room : List ℕ) (n : ℕ) → sets room (2 * 0) (digitsFrom bytes (n - 0) 0) ≡ sets room 0 (digitsFrom bytes n 0)
+spell-start bytes room n = let z : n - 0 ≡ n = omega arith in rw z refl
+
+pub spell-turn : (bytes room : List ℕ) (n k a b : ℕ) → k < n → a ≡ glyph (getD bytes k 0 / 16) → b ≡ glyph (getD bytes k 0 % 16) → sets room (2 * k) (digitsFrom bytes (n - k) k) ≡ sets (set (set room (2 * k) a) (2 * k + 1) b) (2 * (k + 1)) (digitsFrom bytes (n - (k + 1)) (k + 1))
+unfolding digitsFrom
+spell-turn bytes room n k a b h d e = let q : n - k ≡ suc (n - (k + 1)) = omega arith in rw q (turn (n - (k + 1)))
+  where
+    turn : (m : ℕ) → sets room (2 * k) (digitsFrom bytes (suc m) k) ≡ sets (set (set room (2 * k) a) (2 * k + 1) b) (2 * (k + 1)) (digitsFrom bytes m (k + 1))
+    turn m = let p : 2 * k + 1 ≡ suc (2 * k) = omega arith in let r : 2 * (k + 1) ≡ suc (suc (2 * k)) = omega arith in rw (d, e, p, r) refl
+
+pub spell-end : (bytes room₀ room : List ℕ) (n k : ℕ) → n ≡ spelt bytes room₀ → 2 * n ≤ length room₀ → n ≤ k → sets room (2 * k) (digitsFrom bytes (n - k) k) ≡ sets room₀ 0 (digitsFrom bytes n 0) → room ≡ lettered bytes room₀
+unfolding digitsFrom lettered
+spell-end bytes room₀ room n k e h z p = sym (none (n - k) (omega arith)) ∙ (p ∙ (sets-eq (digitsFrom bytes n 0) room₀ 0 fits ∙ whole))
+  where
+    none : (m : ℕ) → m ≡ 0 → sets room (2 * k) (digitsFrom bytes m k) ≡ room
+    none m q = rw q refl
+
+    fits : 0 + length (digitsFrom bytes n 0) ≤ length room₀
+    fits = let q = digits-length bytes n 0 in omega (arith, q, h)
+
+    whole : take 0 room₀ ++ digitsFrom bytes n 0 ++ drop (0 + length (digitsFrom bytes n 0)) room₀ ≡ lettered bytes room₀
+    whole = let q : 0 + length (digitsFrom bytes n 0) ≡ 2 * n = (let r = digits-length bytes n 0 in omega (arith, r)) in rw (q, e) refl
 
 -- ---- a number that is read from its highest digit on
 pub number-start : (text : List ℕ) → 0 ≡ numberTo text 0

@@ -41,3 +41,21 @@ fitting text room = min (length text / 2) (length room)
 unfoldable pub filled : List ℕ → List ℕ → List ℕ
 unfolding bytesFrom
 filled text room = bytesFrom text (fitting text room) 0 ++ drop (fitting text room) room
+
+-- ---- the other way: a byte by its two digits, the higher first
+abbrev pub glyph : ℕ → ℕ
+glyph d = cond (ltb d 10) (48 + d) (87 + d)
+
+-- the digits of m bytes from byte k on
+unfoldable pub digitsFrom : List ℕ → ℕ → ℕ → List ℕ
+digitsFrom bytes zero k = []
+digitsFrom bytes (suc m) k = glyph (getD bytes k 0 / 16) ∷ glyph (getD bytes k 0 % 16) ∷ digitsFrom bytes m (k + 1)
+
+-- as many bytes as there are, or as there is room for the digits of
+abbrev pub spelt : List ℕ → List ℕ → ℕ
+spelt bytes room = min (length bytes) (length room / 2)
+
+-- the room with their digits at its front; the rest as it was
+unfoldable pub lettered : List ℕ → List ℕ → List ℕ
+unfolding digitsFrom
+lettered bytes room = digitsFrom bytes (spelt bytes room) 0 ++ drop (2 * spelt bytes room) room

@@ -1,9 +1,9 @@
 // Reading cases: a text in lines and words, and what the hexadecimal digits of a word stand for.
 ghost use mathlib.Core.Path.{_≡_};
-ghost use Prim.Native.Nat.{_+_, _-_, _≤_, _<_, min};
+ghost use Prim.Native.Nat.{_+_, _-_, _*_, _≤_, _<_, min};
 ghost use lib.ListN.{length};
 ghost use lib.Ieee.{binary64, ofBits, toBits};
-ghost use Rattle.cases.specs.Digits.{digit as digitOf, numberOf, byteOf, fitting, filled};
+ghost use Rattle.cases.specs.Digits.{digit as digitOf, numberOf, byteOf, fitting, filled, glyph as glyphOf, spelt, lettered};
 ghost use Rattle.cases.specs.Words.{until as untilOf};
 
 // What stands in the text from a place on, before the first byte `stop`; nothing where the text has ended.
@@ -90,6 +90,31 @@ pub fn bytes_of(text: &[u8], room: &mut [u8]) -> usize
         k = k + 1;
     }
     n
+}
+
+fn glyph(d: u8) -> u8
+    requires { ⌜ d < 16 ⌝ }
+    ensures { λ r. ⌜ r ≡ glyphOf d ⌝ }
+{
+    if d < 10 {
+        return 48 + d;
+    }
+    87 + d
+}
+
+// The digits of the bytes, two each, to the front of the room, of as many bytes as it holds; how many digits.
+pub fn digits_of(bytes: &[u8], room: &mut [u8]) -> usize
+    ensures { λ r. ⌜ (r ≡ 2 * spelt (now (bytes .entry)) (now (room .entry))) × (now (room .exit) ≡ lettered (now (bytes .entry)) (now (room .entry))) × (r ≤ length (now (room .exit))) ⌝ }
+{
+    let n = least(bytes.len(), room.len() / 2);
+    let mut k: usize = 0;
+    while k < n {
+        let b = bytes[k];
+        room[2 * k] = glyph(b / 16);
+        room[2 * k + 1] = glyph(b % 16);
+        k = k + 1;
+    }
+    2 * n
 }
 
 // The double with these bits, NaN for those of any NaN.

@@ -7,16 +7,10 @@ fn write_number(n: u32) {
     io::write_all(1, b" ");
 }
 
-fn write_byte(b: u8) {
-    io::print_hex(1, b as u64, 2);
-}
-
-fn write_part(part: &[u8]) {
-    let mut j = 0;
-    while j < part.len() {
-        write_byte(part[j]);
-        j += 1;
-    }
+fn write_bytes(bytes: &[u8]) {
+    let mut digits = [0u8; 8192];
+    let n = cases::digits_of(bytes, &mut digits);
+    io::write_all(1, &digits[0..n]);
 }
 
 fn write_coordinates(part: &[u8]) {
@@ -45,7 +39,7 @@ fn answer(file: &[u8], k: usize) {
     write_number(v.place);
     write_recording(recordings::recording(file, k));
     let part = recordings::part(file, k);
-    write_part(part);
+    write_bytes(part);
     write_coordinates(part);
     io::write_all(1, b"\n");
 }

@@ -6,16 +6,10 @@ fn write_number(n: u32) {
     io::write_all(1, b" ");
 }
 
-fn write_byte(b: u8) {
-    io::print_hex(1, b as u64, 2);
-}
-
 fn write_bytes(bytes: &[u8]) {
-    let mut j = 0;
-    while j < bytes.len() {
-        write_byte(bytes[j]);
-        j += 1;
-    }
+    let mut digits = [0u8; 2048];
+    let n = cases::digits_of(bytes, &mut digits);
+    io::write_all(1, &digits[0..n]);
 }
 
 // One case: a file, and a room.

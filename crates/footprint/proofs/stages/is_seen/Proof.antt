@@ -47,7 +47,7 @@ returns c =
     let l = p .before .before .loop in
     let b = p .before .before .before .before in
     let file = now (b .args .file) in
-    seen-here file (b .pre .1) (l .j) (b .args .id) (p .before .loop-test .taken) (id-cut file (p .entry-place .result) (c .before .u32-at .ensures) ∙ ap (u32At file) (p .entry-place .ensures)) (c .if1 .taken) ∙ sym (l .inv .1)
+    seen-here file (b .pre .1) (l .j) (b .args .id) (omega (arith, p .before .loop-test .taken)) (id-cut file (p .entry-place .result) (c .before .u32-at .ensures) ∙ ap (u32At file) (p .entry-place .ensures)) (c .if1 .taken) ∙ sym (l .inv .1)
 
 loop-less : tie.Need-loop-less Inv-loop μ-loop
 loop-less c = search needs
@@ -58,7 +58,7 @@ loop-again c =
     let l = p .before .before .loop in
     let b = p .before .before .before .before in
     let file = now (b .args .file) in
-    (omega arith, l .inv .1 ∙ seen-before file (b .pre .1) (l .j) (b .args .id) (p .before .loop-test .taken) (id-cut file (p .entry-place .result) (c .before .u32-at .ensures) ∙ ap (u32At file) (p .entry-place .ensures)) (c .if1 .left))
+    (omega arith, l .inv .1 ∙ seen-before file (b .pre .1) (l .j) (b .args .id) (omega (arith, p .before .loop-test .taken)) (id-cut file (p .entry-place .result) (c .before .u32-at .ensures) ∙ ap (u32At file) (p .entry-place .ensures)) (c .if1 .left))
 
 returns-2 : tie.Need-returns-2 Inv-loop μ-loop
 returns-2 c = let l = c .before .loop in seen-none _ (l .j) _ (c .loop-test .left) ∙ sym (l .inv .1)
