@@ -26,7 +26,7 @@ use Rattle.triangles.specs.Pair.{vertexOf, paramsOf, carriedBy, vertexSigns, si
 use Rattle.triangles.specs.Positions.{fraction, between, crossingAt, positionOf, valuesOfCorners}
 use Rattle.triangles.specs.Refusals.{positionsWay}
 use Rattle.crossings.specs.Crossing.{spotOn}
-use Rattle.routine.specs.Code.{crossSpot, spotBy, spotOf}
+use Rattle.routine.specs.Code.{crossSpot, spotOf}
 
 -- ---- one operation's way
 fine-op : (a b : Way) (v : Float) → fine (step v (a .way ++ b .way)) ≡ ((fine a && fine b) && finite v)
@@ -126,7 +126,7 @@ module _ (l : List Float) where
       }
 
   pub stands : (p : Place) → Stands (spot p) (positionOf l p)
-  unfolding spotOf spotBy positionOf all
+  unfolding spotOf positionOf all
   stands (vertex i) = record { x = refl; y = refl; fine-way = λ m h. refl; way-fine = λ h. refl }
   stands (corner k) = record { x = refl; y = refl; fine-way = λ m h. refl; way-fine = λ h. refl }
   stands (crossing e a) = go (signsBy l (start e) a)

@@ -78,7 +78,7 @@ module _ (l room : List Float) (p q r : Params) (known : (length l ≡ 12) × (1
   abbrev bs : List (List Bool)
   bs = on 0 .before ∷ on 1 .before ∷ on 2 .before ∷ []
 
-  ordered-keeps : Keeps l room (orderedBy l room p q r)
+  ordered-keeps : Keeps l room (orderedBy l room ps)
   unfolding orderedBy
   ordered-keeps = go (on 0 .fine && (on 1 .fine && on 2 .fine)) refl
     where
@@ -87,11 +87,11 @@ module _ (l room : List Float) (p q r : Params) (known : (length l ≡ 12) × (1
       go false h = tests-refusal-kept l room p q r (signsOf p) (signsOf q) (signsOf r) known named refl refl refl (on 0) (on 1) (on 2) refl refl refl h refl
 
 -- ---- from d, e and the parameters on
-pub settled-keeps : (l room : List Float) (d e : Float) (p q r : Params) → length l ≡ 12 → 12 ≤ length room → (d ≡ dOfV l .value) × (e ≡ eOfU l .value) × (p ≡ paramsOf l 0) × (q ≡ paramsOf l 1) × (r ≡ paramsOf l 2) → Keeps l room (settledBy l room d e p q r)
+pub settled-keeps : (l room : List Float) (d e : Float) (p q r : Params) → length l ≡ 12 → 12 ≤ length room → (d ≡ dOfV l .value) × (e ≡ eOfU l .value) × (p ≡ paramsOf l 0) × (q ≡ paramsOf l 1) × (r ≡ paramsOf l 2) → Keeps l room (settledBy l room d e (p ∷ q ∷ r ∷ []))
 unfolding settledBy
 settled-keeps l room d e p q r n m named = go (eqb (numberBy l d e p q r) 0) refl
   where
-    go : (b : Bool) → eqb (numberBy l d e p q r) 0 ≡ b → Keeps l room (cond b (orderedBy l room p q r) (refusedWith (numberBy l d e p q r) room))
+    go : (b : Bool) → eqb (numberBy l d e p q r) 0 ≡ b → Keeps l room (cond b (orderedBy l room (p ∷ q ∷ r ∷ [])) (refusedWith (numberBy l d e p q r) room))
     go true h = ordered-keeps l room p q r (n, m, sym (number-is l d e p q r named n refl) ∙ eqb-true (numberBy l d e p q r) 0 h) (named .2, named .3, named .4)
     go false h = front-kept l room refl n m (number-is l d e p q r named n refl) (eqb-false (numberBy l d e p q r) 0 h)
 

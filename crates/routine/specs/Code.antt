@@ -1,9 +1,9 @@
 -- The steps of the code from the values to the answer. That they give the answer of the rules is the entry point's promise. Definitions and a statement.
 use mathlib.Core.Path.{_≡_}
-use mathlib.Core.Bool.{Bool, true, false, _&&_, cond}
+use mathlib.Core.Bool.{Bool, true, _&&_, cond}
 use mathlib.Core.List.{List, [], _∷_, _++_}
 use Prim.Native.Nat.{ℕ, zero, suc, _+_, _-_, _*_, _/_, _%_}
-use lib.Dec.{eqb}
+use lib.Dec.{eqb, ltb}
 use lib.ListN.{getD}
 use lib.Ieee.{Float, nan, binary64, add, mul, neg, lt}
 use Rattle.floats.specs.Finite.{finite, nought}
@@ -48,20 +48,10 @@ unfoldable pub crossSpot : List Float → List Params → ℕ → ℕ → ℕ �
 crossSpot l ps a i j = spotOn (parameter (carried (paramsAt ps i)) a .value) (parameter (carried (paramsAt ps j)) a .value) (positionAt l i) (positionAt l j)
 
 -- of a place: a crossing's position is reckoned from the start of its edge, if that is plus on the crossing's line, else from the finish
-unfoldable pub spotBy : List Float → List Params → Bool → Place → Spot
-spotBy l ps plus (vertex i) = copied (positionAt l i)
-spotBy l ps plus (corner k) = copied (positionAt l (3 + k))
-spotBy l ps plus (crossing e a) = cond plus (crossSpot l ps a (start e) (finish e)) (crossSpot l ps a (finish e) (start e))
-
--- the sign of that start on that line; of a place that is no crossing nothing hangs on it
-abbrev pub plusAt : List (List Bool) → Place → Bool
-plusAt ss (vertex i) = false
-plusAt ss (corner k) = false
-plusAt ss (crossing e a) = signsAt ss (start e) a
-
 unfoldable pub spotOf : List Float → List Params → List (List Bool) → Place → Spot
-unfolding spotBy
-spotOf l ps ss p = spotBy l ps (plusAt ss p) p
+spotOf l ps ss (vertex i) = copied (positionAt l i)
+spotOf l ps ss (corner k) = copied (positionAt l (3 + k))
+spotOf l ps ss (crossing e a) = cond (signsAt ss (start e) a) (crossSpot l ps a (start e) (finish e)) (crossSpot l ps a (finish e) (start e))
 
 -- the spot of the ring's place i
 abbrev pub spotAt : List Float → List Params → List (List Bool) → List Corner → ℕ → Spot
@@ -73,6 +63,10 @@ edgeIn code = (code - 6) / 3
 
 abbrev pub lineIn : ℕ → ℕ
 lineIn code = (code - 6) % 3
+
+-- by a place's number: below 6 it is a position of the input, else the crossing of line a on the edge from i to j, plus being i's sign on a
+unfoldable pub spotFrom : List Float → List Params → ℕ → ℕ → ℕ → ℕ → Bool → Spot
+spotFrom l ps code a i j plus = cond (ltb code 6) (copied (positionAt l code)) (cond plus (crossSpot l ps a i j) (crossSpot l ps a j i))
 
 -- the values of the first n spots, and whether all of them are fine
 unfoldable pub spotsTo : List Float → List Params → List (List Bool) → List Corner → ℕ → List Float
@@ -119,18 +113,17 @@ placedAs l room ps ss w =
     cond (fineTo l ps ss (w .places) (w .n) && finite area) (answeredWith w area (written spots room)) (refusedWith 4 room)
 
 -- from the parameters on: the orders along U's edges, refused where a pair test that was computed is not finite
-unfoldable pub orderedBy : List Float → List Float → Params → Params → Params → Outcome
-orderedBy l room p q r =
-    let ps = p ∷ q ∷ r ∷ [] in
-    let ss = signsOf p ∷ signsOf q ∷ signsOf r ∷ [] in
+unfoldable pub orderedBy : List Float → List Float → List Params → Outcome
+orderedBy l room ps =
+    let ss = signsOf (paramsAt ps 0) ∷ signsOf (paramsAt ps 1) ∷ signsOf (paramsAt ps 2) ∷ [] in
     let a = orderOn ps ss 0 in
     let b = orderOn ps ss 1 in
     let c = orderOn ps ss 2 in
     cond (a .fine && (b .fine && c .fine)) (placedAs l room ps ss (ringOf ss (a .before ∷ b .before ∷ c .before ∷ []))) (refusedWith 4 room)
 
 -- from d, e and the parameters on: the rows before the pair tests first
-unfoldable pub settledBy : List Float → List Float → Float → Float → Params → Params → Params → Outcome
-settledBy l room d e p q r = let k = numberBy l d e p q r in cond (eqb k 0) (orderedBy l room p q r) (refusedWith k room)
+unfoldable pub settledBy : List Float → List Float → Float → Float → List Params → Outcome
+settledBy l room d e ps = let k = numberBy l d e (paramsAt ps 0) (paramsAt ps 1) (paramsAt ps 2) in cond (eqb k 0) (orderedBy l room ps) (refusedWith k room)
 
 -- ---- of two triangles made ready, whatever their eleven numbers are: the sides and the crosses are taken as they stand
 unfoldable pub decisionBy : Shape → Shape → Decision
@@ -139,7 +132,7 @@ decisionBy u v =
     let p = by (first u) in
     let q = by (second u) in
     let r = by (third u) in
-    cond (beyondBy (v .cross) (u .cross) p q r) Apart (decided (settledBy (twelve u v) enough (v .cross) (u .cross) p q r .answer))
+    cond (beyondBy (v .cross) (u .cross) p q r) Apart (decided (settledBy (twelve u v) enough (v .cross) (u .cross) (p ∷ q ∷ r ∷ []) .answer))
 
 -- where each was made ready from its own vertices, it is the decision of their twelve values
 abbrev pub DecidedOfMade : Type 0

@@ -2,8 +2,7 @@
 ghost use mathlib.Core.Path.{_≡_};
 ghost use Prim.Native.Nat.{_*_, _<_, _≤_};
 ghost use lib.ListN.{length, take};
-ghost use Rattle.walk.specs.Code.{placeOf};
-ghost use Rattle.routine.specs.Code.{positionAt, crossSpot, spotBy, edgeIn, lineIn, spotsTo, fineTo, areaBy};
+ghost use Rattle.routine.specs.Code.{positionAt, crossSpot, edgeIn, lineIn, spotFrom, spotsTo, fineTo, areaBy};
 
 // The positions of a ring's corners, and whether all of them are fine.
 pub(crate) struct Corners {
@@ -65,15 +64,18 @@ fn line_in(place: walk::Corner) -> usize
     (code - 6) % 3
 }
 
-// The position of a place of the ring; of a crossing, `plus` is the sign on its line where its edge starts.
+// The position of a place of the ring. Of a crossing a is the line, i and j are the start and the finish of the edge, and `plus` is the sign of i on a.
 fn spot_of(
     values: &[f64],
     params: [lines::Params; 3],
-    plus: bool,
     place: walk::Corner,
+    a: usize,
+    i: usize,
+    j: usize,
+    plus: bool,
 ) -> crossings::Spot
-    requires { ⌜ length (now values) ≡ 12 ⌝ }
-    ensures { λ r. ⌜ r ≡ spotBy (now (values .entry)) params plus (placeOf (place .code)) ⌝ }
+    requires { ⌜ (length (now values) ≡ 12) × (i < 3) × (j < 3) ⌝ }
+    ensures { λ r. ⌜ r ≡ spotFrom (now (values .entry)) params (place .code) a i j plus ⌝ }
 {
     let code = place.code as usize;
     if code < 6 {
@@ -84,10 +86,6 @@ fn spot_of(
             fine: true,
         };
     }
-    let e = edge_in(place);
-    let a = line_in(place);
-    let i = lines::end_of(e, 0);
-    let j = lines::end_of(e, 1);
     if plus {
         return cross_spot(values, params, a, i, j);
     }
@@ -110,9 +108,11 @@ pub(crate) fn corners_of(
     let mut i = 0;
     while i < n {
         let place = places[i];
-        let start = lines::end_of(edge_in(place), 0);
+        let e = edge_in(place);
         let a = line_in(place);
-        let spot = spot_of(values, params, signs[start][a], place);
+        let start = lines::end_of(e, 0);
+        let finish = lines::end_of(e, 1);
+        let spot = spot_of(values, params, place, a, start, finish, signs[start][a]);
         xy[2 * i] = spot.x;
         xy[2 * i + 1] = spot.y;
         fine = fine & spot.fine;

@@ -5,6 +5,15 @@ use borrow.Author.Needs.{needs}
 use Rattle.routine.proofs.ordered.Statement.{statement}
 use Rattle.routine.proofs.ordered.Tie as tie
 
+array-copy-out-p : tie.Need-array-copy-out-p
+array-copy-out-p c = search needs
+
+array-copy-out-q : tie.Need-array-copy-out-q
+array-copy-out-q c = search needs
+
+array-copy-out-r : tie.Need-array-copy-out-r
+array-copy-out-r c = search needs
+
 signs-of-requires : tie.Need-signs-of-requires
 signs-of-requires c κs = search needs
 
@@ -54,8 +63,11 @@ returns c =
     let b18 = b17 .before in
     let b19 = b18 .before in
     let b20 = b19 .before in
-    let g = b20 .args in
-    orders-leave (now (g .values)) (now (g .room)) (g .p) (g .q) (g .r) _ _ _ (b17 .signs-of .ensures) (b16 .signs-of2 .ensures) (b15 .signs-of3 .ensures) _ (b14 .orders-of .ensures) (b7 .if1 .taken) (b2 .placed .ensures)
+    let b21 = b20 .before in
+    let b22 = b21 .before in
+    let b23 = b22 .before in
+    let g = b23 .args in
+    orders-leave (now (g .values)) (now (g .room)) (g .t3) _ _ _ (b17 .signs-of .ensures) (b16 .signs-of2 .ensures) (b15 .signs-of3 .ensures) _ (b14 .orders-of .ensures) (b7 .if1 .taken) (b2 .placed .ensures)
 
 refused-requires : tie.Need-refused-requires
 refused-requires c κs = search needs
@@ -76,13 +88,19 @@ returns-2 c =
     let b12 = b11 .before in
     let b13 = b12 .before in
     let b14 = b13 .before in
-    let g = b14 .args in
-    tests-leave (now (g .values)) (now (g .room)) (g .p) (g .q) (g .r) _ _ _ (b11 .signs-of .ensures) (b10 .signs-of2 .ensures) (b9 .signs-of3 .ensures) _ (b8 .orders-of .ensures) (b1 .if1 .left) (c .refused .ensures)
+    let b15 = b14 .before in
+    let b16 = b15 .before in
+    let b17 = b16 .before in
+    let g = b17 .args in
+    tests-leave (now (g .values)) (now (g .room)) (g .t3) _ _ _ (b11 .signs-of .ensures) (b10 .signs-of2 .ensures) (b9 .signs-of3 .ensures) _ (b8 .orders-of .ensures) (b1 .if1 .left) (c .refused .ensures)
 
 pub ordered-spec : {M : Type 1} → statement M
 ordered-spec =
     tie.close
     (tie.spec
+    array-copy-out-p
+    array-copy-out-q
+    array-copy-out-r
     signs-of-requires
     signs-of-requires-2
     signs-of-requires-3
