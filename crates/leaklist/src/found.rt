@@ -37,7 +37,7 @@ fn add_pair(
     requires { ⌜ Gathering (now file) (now table) × (i < countOf (now file)) × (e ≡ entryAt (now file) i) × (at ≡ tablePlace (now file)) × (j < countOf (now file)) × (k < 4096) × (length (now found) ≡ 12288) ⌝ }
     ensures { λ r. ⌜ (leaksIn (now (found .exit)) r ≡ leaksIn (now (found .entry)) k ++ itemOf (now (file .entry)) i j) × (r ≤ k + 1) ⌝ }
 {
-    let f = recordings::entry_at(file, at + 12 * j);
+    let f = reading::entry_at(file, at + 12 * j);
     if f.set != 0 {
         return k;
     }
@@ -87,7 +87,7 @@ fn add_test(
     requires { ⌜ Gathering (now file) (now table) × (i < countOf (now file)) × (at ≡ tablePlace (now file)) × (count ≡ countOf (now file)) × (k + 64 ≤ 4096) × (length (now found) ≡ 12288) ⌝ }
     ensures { λ r. ⌜ (leaksIn (now (found .exit)) r ≡ leaksIn (now (found .entry)) k ++ testOf (now (file .entry)) i) × (r ≤ k + 64) ⌝ }
 {
-    let e = recordings::entry_at(file, at + 12 * i);
+    let e = reading::entry_at(file, at + 12 * i);
     if e.set != 1 {
         return k;
     }

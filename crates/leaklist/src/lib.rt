@@ -18,8 +18,8 @@ fn listed(file: &[u8], room: &mut [u8]) -> listing::Listed
     ensures { λ r. ⌜ Promise (now (file .entry)) (now (room .entry)) r (now (room .exit)) ⌝ }
 {
     let n = file.len();
-    let at = recordings::u32_at(file, n - 12) as usize;
-    let count = recordings::u32_at(file, n - 8) as usize;
+    let at = reading::u32_at(file, n - 12) as usize;
+    let count = reading::u32_at(file, n - 8) as usize;
     let mut table = no_shapes();
     prepare(&mut table, file, at / 24);
     let mut found = no_leaks();

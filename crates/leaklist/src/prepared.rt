@@ -82,12 +82,12 @@ pub(crate) fn prepare(table: &mut [f64], file: &[u8], n: usize)
     while k < n {
         let at = 24 * k;
         let s = shapes::shape_of(
-            recordings::f64_at(file, at),
-            recordings::f64_at(file, at + 4),
-            recordings::f64_at(file, at + 8),
-            recordings::f64_at(file, at + 12),
-            recordings::f64_at(file, at + 16),
-            recordings::f64_at(file, at + 20),
+            reading::f64_at(file, at),
+            reading::f64_at(file, at + 4),
+            reading::f64_at(file, at + 8),
+            reading::f64_at(file, at + 12),
+            reading::f64_at(file, at + 16),
+            reading::f64_at(file, at + 20),
         );
         put_shape(table, k, s);
         k = k + 1;

@@ -1,9 +1,4 @@
 // The recordings of a footprint file and their parts.
-// What a file or a part is read with.
-pub use reading::entry_at;
-pub use reading::f64_at;
-pub use reading::i32_at;
-pub use reading::u32_at;
 ghost use mathlib.Core.Path.{_≡_};
 ghost use Prim.Native.Nat.{_+_, _*_};
 ghost use Rattle.layout.specs.Verdict.{said};
@@ -33,11 +28,11 @@ pub fn recording(file: &[u8], k: usize) -> layout::Recording
         return refused(v.number, v.place);
     }
     let n = file.len();
-    if u32_at(file, n - 8) as usize <= k {
+    if reading::u32_at(file, n - 8) as usize <= k {
         return refused(10, 0);
     }
-    let table = u32_at(file, n - 12) as usize;
-    let e = entry_at(file, table + 12 * k);
+    let table = reading::u32_at(file, n - 12) as usize;
+    let e = reading::entry_at(file, table + 12 * k);
     layout::Recording {
         number: 0,
         place: 0,
