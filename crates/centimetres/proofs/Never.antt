@@ -25,7 +25,7 @@ use Rattle.triangles.specs.declared.Decision.{Decision}
 use Rattle.triangles.specs.declared.Decision.the-variants.{Refused, Ring, Apart}
 use Rattle.triangles.specs.Decision.{enough, answerTo, decided, decisionOf}
 use Rattle.triangles.proofs.Rows.{by-none, number-is}
-use Rattle.centimetres.specs.Centimetres.{valuesOf, NeverRefused, AlwaysDecided}
+use Rattle.centimetres.specs.Centimetres.{twelveValues, NeverRefused, AlwaysDecided}
 use Rattle.centimetres.proofs.Zero.{eq-exact}
 use Rattle.centimetres.proofs.Ways.{Whole}
 use Rattle.centimetres.proofs.Parameters.{WholeParameters}
@@ -75,7 +75,7 @@ module _ {zs : List ℤ} (h : Twelve zs) where
 
 pub never-refused : NeverRefused
 unfolding twiceArea
-never-refused u v hu hv room b = by-none (valuesOf u v) room .1 (no-row twelve (hu .someArea) (hv .someArea) room b)
+never-refused u v hu hv room b = by-none (twelveValues u v) room .1 (no-row twelve (hu .someArea) (hv .someArea) room b)
   where
     twelve : Twelve (numbersOf u ++ numbersOf v)
     twelve = record { count = refl; inRange = λ z m. ⊎-elim (hu .inRange z) (hv .inRange z) (List·Memᴰ·append-cases (numbersOf u) m) }
@@ -98,5 +98,5 @@ no-number a z = rw z (go (eqb (a .n) 0))
 pub always-decided : AlwaysDecided
 unfolding decisionOf isRefused
 always-decided u v hu hv k e =
-    let n = number-is (valuesOf u v) enough ∙ never-refused u v hu hv enough (lit≤ tt) in
-    false≢true (sym (no-number (answerTo (valuesOf u v)) n) ∙ ap isRefused e)
+    let n = number-is (twelveValues u v) enough ∙ never-refused u v hu hv enough (lit≤ tt) in
+    false≢true (sym (no-number (answerTo (twelveValues u v)) n) ∙ ap isRefused e)

@@ -24,16 +24,16 @@ pub record Centimetres (t : Triangle) : Type 0 where
   pub someArea : twiceArea t ≡ pos 0 → ⊥
 
 -- the twelve values of a pair, U first, each whole number as f64
-abbrev pub valuesOf : Triangle → Triangle → List Float
-valuesOf u v = map (ofInt binary64) (numbersOf u ++ numbersOf v)
+abbrev pub twelveValues : Triangle → Triangle → List Float
+twelveValues u v = map (ofInt binary64) (numbersOf u ++ numbersOf v)
 
 -- no row of the refusal table applies to such a pair, whatever room of twelve or more is lent
 abbrev pub NeverRefused : Type 0
-NeverRefused = (u v : Triangle) → Centimetres u → Centimetres v → (room : List Float) → 12 ≤ length room → refusalOf (valuesOf u v) room ≡ 0
+NeverRefused = (u v : Triangle) → Centimetres u → Centimetres v → (room : List Float) → 12 ≤ length room → refusalOf (twelveValues u v) room ≡ 0
 
 -- so its decision is not a refusal, of whatever number
 abbrev pub AlwaysDecided : Type 0
-AlwaysDecided = (u v : Triangle) → Centimetres u → Centimetres v → (k : ℕ) → decisionOf (valuesOf u v) ≡ Refused k → ⊥
+AlwaysDecided = (u v : Triangle) → Centimetres u → Centimetres v → (k : ℕ) → decisionOf (twelveValues u v) ≡ Refused k → ⊥
 
 -- ---- which triangles are such
 -- one that neither 17 nor 18 is said of

@@ -13,8 +13,8 @@ use Rattle.lines.specs.declared.Params.{Params}
 use Rattle.lines.specs.Parameters.{signs, signsOf}
 use Rattle.edges.specs.declared.Order.{Order}
 use Rattle.edges.specs.declared.Test.{Test}
-use Rattle.order.specs.Order.{Decided, orderAlong}
-use Rattle.edges.specs.Code.{tested, ordered, orderBy, beforeIn, decidedFrom, testFine, orderOf}
+use Rattle.order.specs.Order.{Ordering, orderAlong}
+use Rattle.edges.specs.Code.{tested, ordered, orderBy, beforeIn, orderingFrom, testFine, orderOf}
 use Rattle.order.proofs.Every.{seven, eight, in-seven}
 use Rattle.order.proofs.Edge.{sameOrder, same-order}
 
@@ -63,7 +63,7 @@ same-ordered a b t =
 abbrev cornered : ℕ × ℕ → Bool
 cornered t = eqb (lowerLine (cornerOn (t .0) (t .1))) (t .0) && eqb (upperLine (cornerOn (t .0) (t .1))) (t .1)
 
-abbrev decides : (ℕ → Test) → List Bool → List Bool → Decided
+abbrev decides : (ℕ → Test) → List Bool → List Bool → Ordering
 decides tests s t = orderAlong (map (λ k. tests k .first) three) false (sign s) (sign t)
 
 unfoldable agrees : (ℕ → Test) → List Bool → List Bool → Bool
@@ -106,7 +106,7 @@ tests-fine p q (t ∷ ts) h =
     ap₂ _&&_ (ap₂ (λ x y. testFine p q (x, y)) a b) (tests-fine p q ts (and-r (cornered t) (all cornered ts) h))
 
 pub is-order : (p q : Params) → orderBy (tested p q (signsOf p)) (signsOf p) (signsOf q) ≡ orderOf p q
-unfolding agrees orderOf decidedFrom
+unfolding agrees orderOf orderingFrom
 is-order p q =
     let tests = tested p q (signsOf p) in
     let d = decides tests (signsOf p) (signsOf q) in
@@ -138,10 +138,10 @@ unfolding all seven eight walkedBack
 all-walked-back = tt
 
 module _ (t p q : List Bool) (mt : List·Memᴰ t eight) (mp : List·Memᴰ p seven) (mq : List·Memᴰ q seven) where
-  abbrev back : Decided
+  abbrev back : Ordering
   back = orderAlong t true (sign q) (sign p)
 
-  abbrev forth : Decided
+  abbrev forth : Ordering
   forth = orderAlong t false (sign p) (sign q)
 
   is-walked-back : T (sameOrder (reverse (back .order)) (forth .order) && sameTests (back .tests) (forth .tests))

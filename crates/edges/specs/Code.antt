@@ -15,7 +15,7 @@ use Rattle.lines.specs.Parameters.{carried, signsOf}
 use Rattle.edges.specs.declared.Order.{Order}
 use Rattle.edges.specs.declared.Test.{Test}
 use Rattle.order.specs.PairTest.{pairD, metFirst}
-use Rattle.order.specs.Order.{Decided, orderAlong}
+use Rattle.order.specs.Order.{Ordering, orderAlong}
 
 -- the pair test of the two lines of corner k: what it says, and whether its D is finite
 unfoldable pub tested : Params → Params → List Bool → ℕ → Test
@@ -101,9 +101,9 @@ unfolding standsBefore
 beforeIn o = map (λ k. standsBefore (lowerLine k) (upperLine k) o) three
 
 -- what the rules decide of an edge from its lower vertex, with the parameters p, to its higher one, with q
-unfoldable pub decidedFrom : Params → Params → Decided
+unfoldable pub orderingFrom : Params → Params → Ordering
 unfolding signsOf tested orderAlong
-decidedFrom p q = orderAlong (map (λ k. tested p q (signsOf p) k .first) three) false (sign (signsOf p)) (sign (signsOf q))
+orderingFrom p q = orderAlong (map (λ k. tested p q (signsOf p) k .first) three) false (sign (signsOf p)) (sign (signsOf q))
 
 -- the D of one of its pair tests is finite
 abbrev pub testFine : Params → Params → ℕ × ℕ → Bool
@@ -111,5 +111,5 @@ testFine p q t = finite (pairD f64 (carried p) (carried q) (t .0) (t .1) .value)
 
 -- the order, by corners, and whether all pair tests that it took are finite
 unfoldable pub orderOf : Params → Params → Order
-unfolding beforeIn decidedFrom all
-orderOf p q = ordered (beforeIn (decidedFrom p q .order)) (all (testFine p q) (decidedFrom p q .tests))
+unfolding beforeIn orderingFrom all
+orderOf p q = ordered (beforeIn (orderingFrom p q .order)) (all (testFine p q) (orderingFrom p q .tests))

@@ -10,9 +10,9 @@ use lib.Dec.{eqb, ltb}
 use borrow.Author.Tests.{eq-eqb, ne-eqb, eqb-true}
 use Rattle.floats.specs.Lists.{any}
 use Rattle.layout.specs.Bytes.{u32At}
-use Rattle.layout.specs.Parts.{tablePlace, countOf, entryFrom, entryPlace, entryAt, endOf, endBefore}
+use Rattle.layout.specs.Parts.{tablePlace, countOf, entryFrom, entryPlace, entryAt, partEnd, endBefore}
 use Rattle.layout.specs.Rules.{isBadEntry, isSeen, entryRule}
-use Rattle.layout.specs.Verdict.{badEntry, idAgain, wrongEnd, idsBefore, test, placeOf, inTurn, firstOf, said, good}
+use Rattle.layout.specs.Verdict.{badEntry, idAgain, wrongEnd, idsBefore, test, placeOf, inTurn, firstOf, numberAt, good}
 use Rattle.layout.specs.Stages.{tableRows, entryNumber}
 use Rattle.layout.specs.declared.Entry.{Entry}
 use Rattle.layout.proofs.Slices.{four-part, entry-part}
@@ -70,7 +70,7 @@ pub end-is : (file : List ℕ) (i : ℕ) (e : Entry) (end : ℕ) (seen : Bool) {
 end-is file i e end seen p q z =
     let f = starts e end seen (sym q ∙ z) in
     let s : i + 1 ≡ suc i = omega arith in
-    ap (λ t. t + 24 * e .count) (sym f) ∙ (ap endOf p ∙ sym (ap (endBefore file) s ∙ unfold endBefore in refl))
+    ap (λ t. t + 24 * e .count) (sym f) ∙ (ap partEnd p ∙ sym (ap (endBefore file) s ∙ unfold endBefore in refl))
 
 -- ---- what the reader knows of entry i, and its number
 module _ (file : List ℕ) {table : ℕ} (at-table : table ≡ tablePlace file) (i : ℕ) (e : Entry) (end : ℕ) (seen : Bool) (read : e ≡ entryFrom file (table + 12 * i)) (ends : end ≡ endBefore file i) (looked : seen ≡ isSeen (e .id) (idsBefore file i)) where
@@ -87,7 +87,7 @@ module _ (file : List ℕ) {count : ℕ} (in-table : count ≡ countOf file) whe
     last : endBefore file (countOf file) ≡ end
     last = let q : countOf file ≡ i = omega arith in ap (endBefore file) q ∙ sym ends
 
-    pub wrong-end : (end ≡ table → ⊥) → said 15 table ≡ firstOf file (wrongEnd ∷ [])
+    pub wrong-end : (end ≡ table → ⊥) → numberAt 15 table ≡ firstOf file (wrongEnd ∷ [])
     unfolding firstOf test placeOf
     wrong-end n = sym (rw (last, ← at-table, ne-eqb end table n) refl)
 

@@ -10,7 +10,7 @@ use lib.ListN.{length, take, drop}
 use borrow.Author.Tests.{ltb-false, eqb-true, not-false}
 use Rattle.layout.specs.Bytes.{signed, u32At}
 use Rattle.layout.specs.Parts.{triangleOf, tablePlace, countOf, storedLength, triangleFrom, triangleAt, trianglesOf}
-use Rattle.layout.specs.Verdict.{outOfRange, flat, inTurn, test, placeOf, firstOf, said, good, verdict}
+use Rattle.layout.specs.Verdict.{outOfRange, flat, inTurn, test, placeOf, firstOf, numberAt, good, verdict}
 use Rattle.layout.specs.Rules.{isBadLength, isOtherLength, isBadTrailer, triangleRule}
 use Rattle.layout.specs.declared.Verdict.{Verdict}
 use Rattle.layout.specs.Stages.{trailerRows, tableRows, triangleRows, triangleNumber}
@@ -25,7 +25,7 @@ pub record Fits (file : List ℕ) : Type 0 where
   pub atMost64 : countOf file ≤ 64
   pub filled : tablePlace file + 12 * countOf file + 12 ≡ length file
 
-none : (a b c : Bool) (p : ℕ) → _≡_ {A = ℕ} (cond a (said 11 0) (cond b (said 12 0) (cond c (said 13 p) good)) .number) 0 → (a ≡ false) × (c ≡ false)
+none : (a b c : Bool) (p : ℕ) → _≡_ {A = ℕ} (cond a (numberAt 11 0) (cond b (numberAt 12 0) (cond c (numberAt 13 p) good)) .number) 0 → (a ≡ false) × (c ≡ false)
 none true b c p h = absurd (omega arith)
 none false true c p h = absurd (omega arith)
 none false false true p h = absurd (omega arith)

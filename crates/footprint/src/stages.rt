@@ -4,7 +4,7 @@ ghost use Prim.Native.Nat.{_+_, _*_, _≤_, _<_};
 ghost use lib.ListN.{length};
 ghost use Rattle.layout.specs.Parts.{tablePlace, countOf, triangleFrom};
 ghost use Rattle.layout.specs.Rules.{isSeen, triangleRule};
-ghost use Rattle.layout.specs.Verdict.{idsBefore, firstOf, said, good};
+ghost use Rattle.layout.specs.Verdict.{idsBefore, firstOf, numberAt, good};
 ghost use Rattle.layout.specs.Stages.{trailerRows, tableRows, triangleRows};
 
 // Where entry i stands.
@@ -41,7 +41,7 @@ fn is_seen(file: &[u8], table: usize, i: usize, id: u32) -> bool
 
 fn refusal(found: u32, place: usize) -> layout::Verdict
     requires { ⌜ place ≤ 65536 ⌝ }
-    ensures { λ r. ⌜ r ≡ said found place ⌝ }
+    ensures { λ r. ⌜ r ≡ numberAt found place ⌝ }
 {
     layout::Verdict {
         number: found,

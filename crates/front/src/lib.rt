@@ -64,7 +64,7 @@ pub fn beyond(d: f64, e: f64, p: lines::Params, q: lines::Params, r: lines::Para
     ensures { λ b. ⌜ b ≡ beyondBy d e p q r ⌝ }
 {
     if clear(d, e, p, q, r) {
-        return walk::apart([lines::signs_of(p), lines::signs_of(q), lines::signs_of(r)]);
+        return walk::beyond_a_line([lines::signs_of(p), lines::signs_of(q), lines::signs_of(r)]);
     }
     false
 }

@@ -10,7 +10,7 @@ use lib.Dec.{eqb, ltb}
 use lib.IntN.{natAbs}
 use lib.ListN.{length}
 use borrow.Author.Tests.{eqb-true, eqb-false, ltb-true, ltb-false}
-use Rattle.layout.specs.Parts.{countOf, entryAt, endBefore, endOf}
+use Rattle.layout.specs.Parts.{countOf, entryAt, endBefore, partEnd}
 use Rattle.layout.specs.Verdict.{Row, badLength, otherLength, badTrailer, badEntry, idAgain, wrongEnd, outOfRange, flat}
 use Rattle.layout.specs.Layout.{Layout, AcceptedExactlyIf}
 use Rattle.layout.specs.Rows.{Applies}
@@ -36,7 +36,7 @@ module _ (file : List ℕ) where
   begins : Layout file → (i : ℕ) → i < countOf file → entryAt file i .first ≡ endBefore file i
   unfolding endBefore
   begins l zero h = l .fromStart h
-  begins l (suc i) h = subst (λ n. entryAt file n .first ≡ endOf (entryAt file i)) (omega arith) (l .endToEnd i (omega arith))
+  begins l (suc i) h = subst (λ n. entryAt file n .first ≡ partEnd (entryAt file i)) (omega arith) (l .endToEnd i (omega arith))
 
   no-row : Layout file → (row : Row) → Applies file row → ⊥
   no-row l badLength (inl h) = let a = l .atLeast12 in omega arith
@@ -69,7 +69,7 @@ module _ (file : List ℕ) where
       knownSet = λ i h. at-most (entryAt file i .set) 2 (λ l. none (badEntry i) (h, inr (inl l)));
       lastZero = λ i h. same (entryAt file i .last) 0 (λ n. none (badEntry i) (h, inr (inr (inl n))));
       fromStart = λ h. unfold endBefore in first-is 0 h;
-      endToEnd = λ i h. let q : i + 1 ≡ suc i = omega arith in subst (λ n. entryAt file n .first ≡ endOf (entryAt file i)) (sym q) (unfold endBefore in first-is (suc i) (omega arith));
+      endToEnd = λ i h. let q : i + 1 ≡ suc i = omega arith in subst (λ n. entryAt file n .first ≡ partEnd (entryAt file i)) (sym q) (unfold endBefore in first-is (suc i) (omega arith));
       toTable = λ i q. same _ _ (λ n. none wrongEnd (inl (i, q, n)));
       noneNoTriangles = λ z. same _ _ (λ n. none wrongEnd (inr (z, n)));
       idsOnce = λ i j l h q. none (idAgain j) (h, (i, l, q));

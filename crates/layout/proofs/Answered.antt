@@ -4,17 +4,17 @@ use native.Mathlib.Omega.{arith}
 use lib.ListN.{length}
 use Rattle.layout.specs.Parts.{entryAt}
 use Rattle.layout.specs.Verdict.{verdict}
-use Rattle.layout.specs.Recordings.{answered}
-use Rattle.layout.specs.Promise.{ReturnedTwo, EmptyRefused}
+use Rattle.layout.specs.Recordings.{recordingBy}
+use Rattle.layout.specs.Promise.{FileReturnedTwo, EmptyRefused}
 use Rattle.layout.proofs.Returned.{is-good, there-is, returned-one}
 use Rattle.layout.proofs.Inside.{parts-inside}
 
-pub returned-two : ReturnedTwo
+pub returned-two : FileReturnedTwo
 returned-two file k r part p q z =
     let w = returned-one file k (verdict file) r part refl p q .answered .0 z in
     let l = w .0 in
     let t = there-is file k (is-good file l) (w .1) in
-    let e : r ≡ answered (entryAt file k) = p ∙ t .0 in
+    let e : r ≡ recordingBy (entryAt file k) = p ∙ t .0 in
     let i = parts-inside file k l (w .1) in
     record {
       entry = e;

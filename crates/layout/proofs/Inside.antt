@@ -12,7 +12,7 @@ use lib.IntN.{pos, _-ℤ_}
 use lib.Ieee.{binary64, ofInt, inFloat, inSigned, toSigned}
 use lib.Ieee.Back.{positive-back, negative-back}
 use Rattle.layout.specs.Bytes.{signed}
-use Rattle.layout.specs.Parts.{numbersOf, tablePlace, countOf, entryAt, endOf, endBefore, triangleFrom, triangleAt}
+use Rattle.layout.specs.Parts.{numbersOf, tablePlace, countOf, entryAt, partEnd, endBefore, triangleFrom, triangleAt}
 use Rattle.layout.specs.Rules.{twiceArea}
 use Rattle.layout.specs.Layout.{Layout}
 use Rattle.layout.specs.Recordings.{bytesOf, partOf, f64At}
@@ -30,11 +30,11 @@ module _ (file : List ℕ) (l : Layout file) where
   begins (suc i) h =
       let w = begins i (omega arith) in
       let q : i + 1 ≡ suc i = omega arith in
-      let e = subst (λ n. entryAt file n .first ≡ endOf (entryAt file i)) q (l .endToEnd i (omega arith)) in
+      let e = subst (λ n. entryAt file n .first ≡ partEnd (entryAt file i)) q (l .endToEnd i (omega arith)) in
       (w .0 + entryAt file i .count, let b = w .1 in omega (arith, e, b))
 
   -- and ends before the table: the last one at the table, each other where the next begins, which has an end further on
-  ends : (m i : ℕ) → i + m + 1 ≡ countOf file → endOf (entryAt file i) ≤ tablePlace file
+  ends : (m i : ℕ) → i + m + 1 ≡ countOf file → partEnd (entryAt file i) ≤ tablePlace file
   ends zero i h = let q = l .toTable i (omega arith) in omega (arith, q)
   ends (suc m) i h =
       let e = l .endToEnd i (omega arith) in
@@ -45,10 +45,10 @@ module _ (file : List ℕ) (l : Layout file) where
     is-part : partOf file k ≡ bytesOf file (entryAt file k)
     is-part = there-is file k (is-good file l) h .1
 
-    before : endOf (entryAt file k) ≤ tablePlace file
+    before : partEnd (entryAt file k) ≤ tablePlace file
     before = ends (countOf file - (k + 1)) k (omega arith)
 
-    in-file : endOf (entryAt file k) ≤ length file
+    in-file : partEnd (entryAt file k) ≤ length file
     in-file = omega (arith, before, l .filled)
 
     triangle : (j : ℕ) → j < entryAt file k .count → (n : ℕ) × (entryAt file k .first + 24 * j ≡ 24 * n) × (24 * n + 24 ≤ tablePlace file) × (triangleFrom (partOf file k) (24 * j) ≡ triangleAt file n)
@@ -83,7 +83,7 @@ module _ (file : List ℕ) (l : Layout file) where
   starts : (i : ℕ) → i < countOf file → entryAt file i .first ≡ endBefore file i
   unfolding endBefore
   starts zero h = l .fromStart h
-  starts (suc i) h = let q : i + 1 ≡ suc i = omega arith in subst (λ n. entryAt file n .first ≡ endOf (entryAt file i)) q (l .endToEnd i (omega arith))
+  starts (suc i) h = let q : i + 1 ≡ suc i = omega arith in subst (λ n. entryAt file n .first ≡ partEnd (entryAt file i)) q (l .endToEnd i (omega arith))
 
   up-to : (n : ℕ) → n ≤ countOf file → partsTo file n ≡ take (endBefore file n) file
   unfolding partsTo endBefore

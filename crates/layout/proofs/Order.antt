@@ -9,7 +9,7 @@ use native.Mathlib.Nat.{eq-or-lt-of-le}
 use lib.Dec.{T}
 use Rattle.layout.specs.Parts.{tablePlace, countOf, trianglesOf}
 use Rattle.layout.specs.Verdict.{Row, badLength, otherLength, badTrailer, badEntry, idAgain, wrongEnd, outOfRange, flat, inTurn, rows}
-use Rattle.layout.specs.Rows.{stageOf, turnOf, Before}
+use Rattle.layout.specs.Rows.{stageOf, turnOf, Earlier}
 use Rattle.layout.proofs.Tests.{Exists}
 
 -- ---- rows in turn
@@ -20,7 +20,7 @@ After stage turn row = (stage < stageOf row) ⊎ ((stage ≡ stageOf row) × (tu
 -- each row comes before all that stand behind it
 abbrev Sorted : List Row → Type 0
 Sorted [] = T true
-Sorted (row ∷ behind) = ((e : Row) → List·Memᴰ e behind → Before row e) × Sorted behind
+Sorted (row ∷ behind) = ((e : Row) → List·Memᴰ e behind → Earlier row e) × Sorted behind
 
 module _ (first second : ℕ → Row) where
   turn-listed : (m i j : ℕ) → i ≤ j → j < i + m → List·Memᴰ (first j) (inTurn first second m i) × List·Memᴰ (second j) (inTurn first second m i)
@@ -48,7 +48,7 @@ module _ (first second : ℕ → Row) where
     later : (m i t : ℕ) (rest : List Row) → ((e : Row) → List·Memᴰ e rest → stage < stageOf e) → t < 2 * i → (row : Row) → List·Memᴰ row (inTurn first second m i ++ rest) → After stage t row
     later m i t rest h l row k = ⊎-elim (turn-after m i t l row) (λ w. inl (h row w)) (List·Memᴰ·append-cases (inTurn first second m i) k)
 
-    as-before : (a row : Row) (t : ℕ) → stageOf a ≡ stage → turnOf a ≡ t → After stage t row → Before a row
+    as-before : (a row : Row) (t : ℕ) → stageOf a ≡ stage → turnOf a ≡ t → After stage t row → Earlier a row
     as-before a row t p q w = subst (λ x. After x (turnOf a) row) (sym p) (subst (λ x. After stage x row) (sym q) w)
 
     turn-sorted : (m i : ℕ) (rest : List Row) → ((e : Row) → List·Memᴰ e rest → stage < stageOf e) → Sorted rest → Sorted (inTurn first second m i ++ rest)
@@ -56,9 +56,9 @@ module _ (first second : ℕ → Row) where
     turn-sorted zero i rest h srt = srt
     turn-sorted (suc m) i rest h srt =
         let behind = later m (i + 1) (2 * i + 1) rest h (omega arith) in
-        let ours : Before (first i) (second i) = as-before (first i) (second i) (2 * i) (f i .0) (f i .1) (inr (sym (s i .0), omega (arith, s i .1))) in (
+        let ours : Earlier (first i) (second i) = as-before (first i) (second i) (2 * i) (f i .0) (f i .1) (inr (sym (s i .0), omega (arith, s i .1))) in (
           (λ e k. ⊎-elim
-              (λ (q : e ≡ second i). subst (Before (first i)) (sym q) ours)
+              (λ (q : e ≡ second i). subst (Earlier (first i)) (sym q) ours)
               (λ w. as-before (first i) e (2 * i) (f i .0) (f i .1) (later m (i + 1) (2 * i) rest h (omega arith) e w))
               (List·Memᴰ·cases-cons k)),
           (
@@ -185,9 +185,9 @@ module _ (file : List ℕ) where
   )
 
 -- what stands behind a row of a sorted list comes after it
-behind : (before : List Row) (row : Row) (after : List Row) → Sorted (before ++ (row ∷ after)) → (e : Row) → List·Memᴰ e after → Before row e
+behind : (before : List Row) (row : Row) (after : List Row) → Sorted (before ++ (row ∷ after)) → (e : Row) → List·Memᴰ e after → Earlier row e
 behind [] row after s e k = s .0 e k
 behind (x ∷ xs) row after s e k = behind xs row after (s .1) e k
 
-pub not-after : (file : List ℕ) (before : List Row) (row : Row) (after : List Row) → rows file ≡ before ++ (row ∷ after) → (e : Row) → List·Memᴰ e after → Before row e
+pub not-after : (file : List ℕ) (before : List Row) (row : Row) (after : List Row) → rows file ≡ before ++ (row ∷ after) → (e : Row) → List·Memᴰ e after → Earlier row e
 not-after file before row after split e k = behind before row after (subst Sorted split (sorted file)) e k

@@ -12,16 +12,16 @@ use Rattle.layout.specs.Parts.{tablePlace, countOf, entryPlace, entryAt}
 use Rattle.layout.specs.Verdict.{Row, badLength, otherLength, badTrailer, badEntry, idAgain, wrongEnd, outOfRange, flat, numberOf, placeOf, good, verdict}
 use Rattle.layout.specs.Layout.{Layout}
 use Rattle.layout.specs.Rows.{Applies, First}
-use Rattle.layout.specs.Recordings.{unlessRefused, refused, answered, noSuch, bytesOf, recordingOf, partOf}
-use Rattle.layout.specs.Promise.{NoSecondAnswer, FileFirst, Zeros, Demand1, ReturnedOne}
+use Rattle.layout.specs.Recordings.{unlessRefused, noRecording, recordingBy, noSuch, bytesOf, recordingOf, partOf}
+use Rattle.layout.specs.Promise.{NoSecondOfFile, FileFirst, Zeros, FileDemand1, FileReturnedOne}
 use Rattle.layout.specs.declared.Verdict.{Verdict}
 use Rattle.layout.specs.declared.Recording.{Recording}
 use Rattle.layout.proofs.Tests.{in-table}
 use Rattle.layout.proofs.Rows.{exactly-when}
 use Rattle.layout.proofs.Accepted.{same, accepted-exactly-if}
 
-pub unique : NoSecondAnswer
-unique = record { check = λ file a b p q. p ∙ sym q; recording = λ file k a b p q. p ∙ sym q; part = λ file k a b p q. p ∙ sym q }
+pub no-second-of-file : NoSecondOfFile
+no-second-of-file = record { check = λ file a b p q. p ∙ sym q; recording = λ file k a b p q. p ∙ sym q; part = λ file k a b p q. p ∙ sym q }
 
 -- ---- the file's own refusal comes first, whatever is asked
 pub file-first : FileFirst
@@ -71,17 +71,17 @@ module _ (file : List ℕ) where
 
   -- ---- the three answers of a recording and its part
   module _ (k : ℕ) where
-    pub by-file : (verdict file .number ≡ 0 → ⊥) → (recordingOf file k ≡ refused (verdict file)) × (partOf file k ≡ [])
+    pub by-file : (verdict file .number ≡ 0 → ⊥) → (recordingOf file k ≡ noRecording (verdict file)) × (partOf file k ≡ [])
     unfolding recordingOf partOf
-    by-file h = (file-first Recording file refused _ h, file-first (List ℕ) file (λ v. []) _ h)
+    by-file h = (file-first Recording file noRecording _ h, file-first (List ℕ) file (λ v. []) _ h)
 
-    pub no-such : verdict file .number ≡ 0 → countOf file ≤ k → (recordingOf file k ≡ refused noSuch) × (partOf file k ≡ [])
+    pub no-such : verdict file .number ≡ 0 → countOf file ≤ k → (recordingOf file k ≡ noRecording noSuch) × (partOf file k ≡ [])
     unfolding recordingOf partOf
-    no-such z h = (not-refused file refused _ z ∙ rw (le-ltb k (countOf file) h) refl, not-refused file (λ v. []) _ z ∙ rw (le-ltb k (countOf file) h) refl)
+    no-such z h = (not-refused file noRecording _ z ∙ rw (le-ltb k (countOf file) h) refl, not-refused file (λ v. []) _ z ∙ rw (le-ltb k (countOf file) h) refl)
 
-    pub there-is : verdict file .number ≡ 0 → k < countOf file → (recordingOf file k ≡ answered (entryAt file k)) × (partOf file k ≡ bytesOf file (entryAt file k))
+    pub there-is : verdict file .number ≡ 0 → k < countOf file → (recordingOf file k ≡ recordingBy (entryAt file k)) × (partOf file k ≡ bytesOf file (entryAt file k))
     unfolding recordingOf partOf
-    there-is z h = (not-refused file refused _ z ∙ rw (lt-ltb k (countOf file) h) refl, not-refused file (λ v. []) _ z ∙ rw (lt-ltb k (countOf file) h) refl)
+    there-is z h = (not-refused file noRecording _ z ∙ rw (lt-ltb k (countOf file) h) refl, not-refused file (λ v. []) _ z ∙ rw (lt-ltb k (countOf file) h) refl)
 
     data Kind : Type 0 where
       byFile : (verdict file .number ≡ 0 → ⊥) → Kind
@@ -96,13 +96,13 @@ module _ (file : List ℕ) where
         go true false p q = unknown (eqb-true _ _ p) (ltb-false _ _ q)
         go true true p q = known (eqb-true _ _ p) (ltb-true _ _ q)
 
-    noughts : (v : Verdict) → Zeros (refused v)
+    noughts : (v : Verdict) → Zeros (noRecording v)
     noughts v = record { id = refl; first = refl; count = refl; set = refl; last = refl }
 
-    demand1 : Demand1 file k (verdict file) (recordingOf file k) (partOf file k)
+    demand1 : FileDemand1 file k (verdict file) (recordingOf file k) (partOf file k)
     demand1 = go kind
       where
-        go : Kind → Demand1 file k (verdict file) (recordingOf file k) (partOf file k)
+        go : Kind → FileDemand1 file k (verdict file) (recordingOf file k) (partOf file k)
         go (byFile h) = let r = by-file h in let n = number-range h in record {
           refusedBy = exactly-when file .refusedBy;
           accepted = accepted-exactly-if file;
@@ -143,5 +143,5 @@ module _ (file : List ℕ) where
           noPart = λ e. absurd (e (rw (r .0) refl));
         }
 
-pub returned-one : ReturnedOne
+pub returned-one : FileReturnedOne
 returned-one file k v r part p q s = rw (p, q, s) (demand1 file k)

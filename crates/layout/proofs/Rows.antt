@@ -11,8 +11,8 @@ use lib.Dec.{eqb, ltb}
 use lib.ListN.{getD}
 use borrow.Author.Tests.{eq-eqb, ne-eqb, ltb-true, ltb-false}
 use Rattle.layout.specs.Parts.{tablePlace, entryPlace}
-use Rattle.layout.specs.Verdict.{Row, badLength, otherLength, badTrailer, badEntry, idAgain, wrongEnd, outOfRange, flat, numberOf, placeOf, test, rows, firstOf, said, good, verdict}
-use Rattle.layout.specs.Rows.{Applies, stageOf, turnOf, Before, First, ExactlyWhen}
+use Rattle.layout.specs.Verdict.{Row, badLength, otherLength, badTrailer, badEntry, idAgain, wrongEnd, outOfRange, flat, numberOf, placeOf, test, rows, firstOf, numberAt, good, verdict}
+use Rattle.layout.specs.Rows.{Applies, stageOf, turnOf, Earlier, First, ExactlyWhen}
 use Rattle.layout.specs.declared.Verdict.{Verdict}
 use Rattle.floats.proofs.First.{NoneOf, Leads, search-first, none-found, found}
 use Rattle.layout.proofs.Tests.{nonzero, applies}
@@ -53,20 +53,20 @@ lt-trichotomy m n = go (ltb m n) refl
     go false e = ⊎-elim (λ (q : n ≡ m). inr (inl (sym q))) (λ l. inr (inr l)) (eq-or-lt-of-le (ltb-false m n e))
 
 -- of two rows one comes first, or they are the same
-one-first : (a b : Row) → Before a b ⊎ ((a ≡ b) ⊎ Before b a)
+one-first : (a b : Row) → Earlier a b ⊎ ((a ≡ b) ⊎ Earlier b a)
 one-first a b = stages (lt-trichotomy (stageOf a) (stageOf b))
   where
-    turns : stageOf a ≡ stageOf b → (turnOf a < turnOf b) ⊎ ((turnOf a ≡ turnOf b) ⊎ (turnOf b < turnOf a)) → Before a b ⊎ ((a ≡ b) ⊎ Before b a)
+    turns : stageOf a ≡ stageOf b → (turnOf a < turnOf b) ⊎ ((turnOf a ≡ turnOf b) ⊎ (turnOf b < turnOf a)) → Earlier a b ⊎ ((a ≡ b) ⊎ Earlier b a)
     turns q (inl l) = inl (inr (q, l))
     turns q (inr (inl e)) = inr (inl (sym (by-stage a) ∙ (ap₂ byStage q e ∙ by-stage b)))
     turns q (inr (inr l)) = inr (inr (inr (sym q, l)))
 
-    stages : (stageOf a < stageOf b) ⊎ ((stageOf a ≡ stageOf b) ⊎ (stageOf b < stageOf a)) → Before a b ⊎ ((a ≡ b) ⊎ Before b a)
+    stages : (stageOf a < stageOf b) ⊎ ((stageOf a ≡ stageOf b) ⊎ (stageOf b < stageOf a)) → Earlier a b ⊎ ((a ≡ b) ⊎ Earlier b a)
     stages (inl l) = inl (inl l)
     stages (inr (inl q)) = turns q (lt-trichotomy (turnOf a) (turnOf b))
     stages (inr (inr l)) = inr (inr (inl l))
 
-not-both : (a b : Row) → Before a b → Before b a → ⊥
+not-both : (a b : Row) → Earlier a b → Earlier b a → ⊥
 not-both a b (inl l) (inl m) = omega arith
 not-both a b (inl l) (inr m) = let q = m .0 in omega arith
 not-both a b (inr l) (inl m) = let q = l .0 in omega arith
@@ -92,7 +92,7 @@ module _ (file : List ℕ) where
   by-number (flat k) = let q : 24 * k / 24 ≡ k = omega arith in ap flat q
 
   saying : Row → Verdict
-  saying row = said (numberOf row) (placeOf file row)
+  saying row = numberAt (numberOf row) (placeOf file row)
 
   same-row : (a b : Row) → saying a ≡ saying b → a ≡ b
   unfolding saying
@@ -125,14 +125,14 @@ module _ (file : List ℕ) where
       mid [] = here refl
       mid (x ∷ xs) = there (mid xs)
 
-      place : (e : Row) → Before e (r .one) → Applies file e → List·Memᴰ e (r .before) ⊎ List·Memᴰ e (r .one ∷ r .after) → ⊥
+      place : (e : Row) → Earlier e (r .one) → Applies file e → List·Memᴰ e (r .before) ⊎ List·Memᴰ e (r .one ∷ r .after) → ⊥
       place e b a (inl k) = fails e (r .none e k) a
       place e b a (inr k) = ⊎-elim
-          (λ (q : e ≡ r .one). let same = subst (λ x. Before x (r .one)) q b in not-both (r .one) (r .one) same same)
+          (λ (q : e ≡ r .one). let same = subst (λ x. Earlier x (r .one)) q b in not-both (r .one) (r .one) same same)
           (λ w. not-both e (r .one) b (not-after file (r .before) (r .one) (r .after) (r .split) e w))
           (List·Memᴰ·cases-cons k)
 
-      earlier : (e : Row) → Before e (r .one) → Applies file e → ⊥
+      earlier : (e : Row) → Earlier e (r .one) → Applies file e → ⊥
       earlier e b a = place e b a (List·Memᴰ·append-cases (r .before) (subst (List·Memᴰ e) (r .split) (listed file e (applies file e .1 a .0))))
 
   only-first : (a b : Row) → First file a → First file b → a ≡ b

@@ -7,7 +7,7 @@ use native.Mathlib.Omega.{arith}
 use borrow.Author.Tests.{eq-eqb, ne-eqb}
 use Rattle.layout.specs.Parts.{countOf, entryPlace, trianglePlace}
 use Rattle.layout.specs.Rules.{entryRule, triangleRule}
-use Rattle.layout.specs.Verdict.{Row, badEntry, idAgain, wrongEnd, outOfRange, flat, numberOf, placeOf, test, inTurn, rows, firstOf, said, verdict}
+use Rattle.layout.specs.Verdict.{Row, badEntry, idAgain, wrongEnd, outOfRange, flat, numberOf, placeOf, test, inTurn, rows, firstOf, numberAt, verdict}
 use Rattle.layout.specs.Stages.{orElse, atOr, trailerRows, tableRows, triangleRows, entryNumber, triangleNumber, ByRules}
 use Rattle.layout.specs.declared.Verdict.{Verdict}
 use Rattle.layout.proofs.Tests.{nonzero}
@@ -24,8 +24,8 @@ module _ (file : List ℕ) where
   append [] ys = refl
   append (row ∷ xs) ys = go (test file row) (append xs ys)
     where
-      go : (b : Bool) → firstOf file (xs ++ ys) ≡ orElse (firstOf file xs) (firstOf file ys) → cond b (said (numberOf row) (placeOf file row)) (firstOf file (xs ++ ys)) ≡ orElse (cond b (said (numberOf row) (placeOf file row)) (firstOf file xs)) (firstOf file ys)
-      go true h = sym (refused (said (numberOf row) (placeOf file row)) (firstOf file ys) (nonzero row))
+      go : (b : Bool) → firstOf file (xs ++ ys) ≡ orElse (firstOf file xs) (firstOf file ys) → cond b (numberAt (numberOf row) (placeOf file row)) (firstOf file (xs ++ ys)) ≡ orElse (cond b (numberAt (numberOf row) (placeOf file row)) (firstOf file xs)) (firstOf file ys)
+      go true h = sym (refused (numberAt (numberOf row) (placeOf file row)) (firstOf file ys) (nonzero row))
       go false h = h
 
   -- two rows of one thing, as one number at its place
@@ -33,9 +33,9 @@ module _ (file : List ℕ) where
   unfolding firstOf
   pair r s rest place p q = go (test file r) (test file s)
     where
-      go : (a b : Bool) → cond a (said (numberOf r) (placeOf file r)) (cond b (said (numberOf s) (placeOf file s)) (firstOf file rest)) ≡ atOr (cond a (numberOf r) (cond b (numberOf s) 0)) place (firstOf file rest)
-      go true b = ap (said (numberOf r)) p ∙ rw (ne-eqb (numberOf r) 0 (nonzero r)) refl
-      go false true = ap (said (numberOf s)) q ∙ rw (ne-eqb (numberOf s) 0 (nonzero s)) refl
+      go : (a b : Bool) → cond a (numberAt (numberOf r) (placeOf file r)) (cond b (numberAt (numberOf s) (placeOf file s)) (firstOf file rest)) ≡ atOr (cond a (numberOf r) (cond b (numberOf s) 0)) place (firstOf file rest)
+      go true b = ap (numberAt (numberOf r)) p ∙ rw (ne-eqb (numberOf r) 0 (nonzero r)) refl
+      go false true = ap (numberAt (numberOf s)) q ∙ rw (ne-eqb (numberOf s) 0 (nonzero s)) refl
       go false false = refl
 
   -- a turn of a loop over things in turn: it stops, goes on, or ends
@@ -47,7 +47,7 @@ module _ (file : List ℕ) where
     at : (k i : ℕ) (rest : List Row) → i < k → firstOf file (inTurn first second (k - i) i ++ rest) ≡ atOr (number i) (place i) (firstOf file (inTurn first second (k - (i + 1)) (i + 1) ++ rest))
     at k i rest h = let q : k - i ≡ suc (k - (i + 1)) = omega arith in ap (λ n. firstOf file (inTurn first second n i ++ rest)) q ∙ step (k - (i + 1)) i rest
 
-    pub stops : (k i : ℕ) (rest : List Row) {n p : ℕ} → i < k → n ≡ number i → p ≡ place i → (n ≡ 0 → ⊥) → said n p ≡ firstOf file (inTurn first second (k - i) i ++ rest)
+    pub stops : (k i : ℕ) (rest : List Row) {n p : ℕ} → i < k → n ≡ number i → p ≡ place i → (n ≡ 0 → ⊥) → numberAt n p ≡ firstOf file (inTurn first second (k - i) i ++ rest)
     stops k i rest {n} {p} h e q z = sym (at k i rest h ∙ rw (sym e, sym q, ne-eqb n 0 z) refl)
 
     pub goes-on : (k i : ℕ) (rest : List Row) {n : ℕ} → i < k → n ≡ number i → n ≡ 0 → firstOf file (inTurn first second (k - i) i ++ rest) ≡ firstOf file (inTurn first second (k - (i + 1)) (i + 1) ++ rest)

@@ -12,7 +12,7 @@ use lib.ListN.{length}
 use borrow.Author.Tests.{eqb-true, eqb-false, eq-eqb, ne-eqb, ltb-true, lt-ltb, not-true}
 use Rattle.floats.specs.Lists.{any}
 use Rattle.floats.specs.Whole.{isNought}
-use Rattle.layout.specs.Parts.{Triangle, numbersOf, tablePlace, countOf, storedLength, entryAt, endBefore, endOf, triangleAt}
+use Rattle.layout.specs.Parts.{Triangle, numbersOf, tablePlace, countOf, storedLength, entryAt, endBefore, partEnd, triangleAt}
 use Rattle.layout.specs.Rules.{isBadLength, isBadTrailer, isBadEntry, isSeen, isWrongEnd, isFar, isOutOfRange, twiceArea, isFlat}
 use Rattle.layout.specs.Verdict.{Row, badLength, otherLength, badTrailer, badEntry, idAgain, wrongEnd, outOfRange, flat, numberOf, idsBefore, test}
 use Rattle.layout.specs.Rows.{BadLength, BadTrailer, BadEntry, OutOfRange, Flat, Applies}
@@ -135,7 +135,7 @@ module _ (file : List ℕ) where
 
   -- the end of the last entry, or 0
   EndsWrong : ℕ → Type 0
-  EndsWrong n = ((i : ℕ) × (i + 1 ≡ n) × (endOf (entryAt file i) ≡ tablePlace file → ⊥)) ⊎ ((n ≡ 0) × (tablePlace file ≡ 0 → ⊥))
+  EndsWrong n = ((i : ℕ) × (i + 1 ≡ n) × (partEnd (entryAt file i) ≡ tablePlace file → ⊥)) ⊎ ((n ≡ 0) × (tablePlace file ≡ 0 → ⊥))
 
   end-test : (n : ℕ) → Tells (isWrongEnd (endBefore file n) (tablePlace file)) (EndsWrong n)
   unfolding EndsWrong endBefore
@@ -143,8 +143,8 @@ module _ (file : List ℕ) where
       let w = other 0 (tablePlace file) in
       ((λ h. inr (refl, λ q. w .0 h (sym q))), (λ x. ⊎-elim (λ a. let q = a .1 in absurd (omega arith)) (λ b. w .1 (λ q. b .1 (sym q))) x))
   end-test (suc n) =
-      let w = other (endOf (entryAt file n)) (tablePlace file) in
-      ((λ h. inl (n, omega arith, w .0 h)), (λ x. ⊎-elim (λ a. let q : a .0 ≡ n = omega (arith, a .1) in w .1 (subst (λ m. endOf (entryAt file m) ≡ tablePlace file → ⊥) q (a .2))) (λ b. let q = b .0 in absurd (omega arith)) x))
+      let w = other (partEnd (entryAt file n)) (tablePlace file) in
+      ((λ h. inl (n, omega arith, w .0 h)), (λ x. ⊎-elim (λ a. let q : a .0 ≡ n = omega (arith, a .1) in w .1 (subst (λ m. partEnd (entryAt file m) ≡ tablePlace file → ⊥) q (a .2))) (λ b. let q = b .0 in absurd (omega arith)) x))
 
   -- there is such a row: rows of entries for entries, of triangles for triangles
   abbrev pub Exists : Row → Type 0

@@ -9,7 +9,7 @@ use borrow.Author.Tests.{lt-ltb}
 use lib.Ieee.Fits.{and-l, and-r}
 use Rattle.floats.specs.Lists.{all}
 use Rattle.floats.proofs.Lists.{all-at, sameList, same-list}
-use Rattle.layout.specs.Verdict.{test, placeOf, firstOf, rows, said, verdict}
+use Rattle.layout.specs.Verdict.{test, placeOf, firstOf, rows, numberAt, verdict}
 use Rattle.layout.specs.Parts.{triangleAt}
 use Rattle.layout.specs.Recordings.{recordingOf, partOf}
 use Rattle.layout.specs.Worked.{Case, Shown, cases, SecondTriangle, TooLong}
@@ -38,7 +38,7 @@ all-right = tt
 
 same-verdict : (a b : Verdict) → T (sameVerdict a b) → a ≡ b
 unfolding sameVerdict
-same-verdict a b t = ap₂ said
+same-verdict a b t = ap₂ numberAt
     (eqb→eq (a .number) (b .number) (and-l (eqb (a .number) (b .number)) (eqb (a .place) (b .place)) t))
     (eqb→eq (a .place) (b .place) (and-r (eqb (a .number) (b .number)) (eqb (a .place) (b .place)) t))
 

@@ -7,15 +7,15 @@ use lib.IntN.{ℤ, pos, natAbs}
 use lib.Dec.{T}
 use lib.Ieee.{binary64, ofInt, inSigned, toSigned}
 use Rattle.layout.specs.Bytes.{byteAt, signed, i32At}
-use Rattle.layout.specs.Parts.{numbersOf, tablePlace, countOf, entryAt, endOf, triangleFrom, triangleAt}
+use Rattle.layout.specs.Parts.{numbersOf, tablePlace, countOf, entryAt, partEnd, triangleFrom, triangleAt}
 use Rattle.layout.specs.Rules.{twiceArea}
 use Rattle.layout.specs.Layout.{Layout}
 use Rattle.layout.specs.Recordings.{partOf, f64At}
 
 pub record Inside (file : List ℕ) (k : ℕ) : Type 0 where
   -- the part lies in the file, before the table, and has 24 bytes a triangle
-  pub beforeTable : endOf (entryAt file k) ≤ tablePlace file
-  pub inFile : endOf (entryAt file k) ≤ length file
+  pub beforeTable : partEnd (entryAt file k) ≤ tablePlace file
+  pub inFile : partEnd (entryAt file k) ≤ length file
   pub partLength : length (partOf file k) ≡ 24 * entryAt file k .count
   -- each of its triangles is one of the file's, and reading it in the part, or in the file at its place, gives the same
   pub ofFile : (j : ℕ) → j < entryAt file k .count → (n : ℕ) × (entryAt file k .first + 24 * j ≡ 24 * n) × (24 * n + 24 ≤ tablePlace file) × (triangleFrom (partOf file k) (24 * j) ≡ triangleAt file n)

@@ -5,7 +5,7 @@ use mathlib.Core.Logic.{_↔_}
 use mathlib.Core.List.{List, List·Memᴰ}
 use lib.ListN.{length}
 use lib.IntN.{ℤ, pos, natAbs}
-use Rattle.layout.specs.Parts.{tablePlace, countOf, storedLength, entryAt, endOf, triangleAt, numbersOf}
+use Rattle.layout.specs.Parts.{tablePlace, countOf, storedLength, entryAt, partEnd, triangleAt, numbersOf}
 use Rattle.layout.specs.Rules.{twiceArea}
 use Rattle.layout.specs.Verdict.{verdict, good}
 
@@ -23,8 +23,8 @@ pub record Layout (file : List ℕ) : Type 0 where
   pub lastZero : (i : ℕ) → i < countOf file → entryAt file i .last ≡ 0
   -- the recordings lie end to end from 0 to the table
   pub fromStart : 0 < countOf file → entryAt file 0 .first ≡ 0
-  pub endToEnd : (i : ℕ) → i + 1 < countOf file → entryAt file (i + 1) .first ≡ endOf (entryAt file i)
-  pub toTable : (i : ℕ) → i + 1 ≡ countOf file → endOf (entryAt file i) ≡ tablePlace file
+  pub endToEnd : (i : ℕ) → i + 1 < countOf file → entryAt file (i + 1) .first ≡ partEnd (entryAt file i)
+  pub toTable : (i : ℕ) → i + 1 ≡ countOf file → partEnd (entryAt file i) ≡ tablePlace file
   pub noneNoTriangles : countOf file ≡ 0 → tablePlace file ≡ 0
   -- no two entries have the same id
   pub idsOnce : (i j : ℕ) → i < j → j < countOf file → entryAt file i .id ≡ entryAt file j .id → ⊥

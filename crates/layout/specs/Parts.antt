@@ -68,11 +68,11 @@ module _ (file : List ℕ) where
   trianglesOf = tablePlace / 24
 
 -- where an entry's triangles end
-abbrev pub endOf : Entry → ℕ
-endOf e = e .first + 24 * e .count
+abbrev pub partEnd : Entry → ℕ
+partEnd e = e .first + 24 * e .count
 
 -- where the triangles of the first i entries end: at 0 for none, else where those of the last of them do
 unfoldable pub endBefore : List ℕ → ℕ → ℕ
 unfolding entryAt
 endBefore file zero = 0
-endBefore file (suc i) = endOf (entryAt file i)
+endBefore file (suc i) = partEnd (entryAt file i)

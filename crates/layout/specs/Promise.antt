@@ -6,10 +6,10 @@ use mathlib.Core.List.{List, []}
 use lib.ListN.{length, take, drop}
 use Rattle.floats.specs.OneAnswer.{NoSecond}
 use Rattle.layout.specs.Parts.{countOf, entryAt}
-use Rattle.layout.specs.Verdict.{Row, numberOf, placeOf, said, good, verdict}
+use Rattle.layout.specs.Verdict.{Row, numberOf, placeOf, numberAt, good, verdict}
 use Rattle.layout.specs.Layout.{Layout}
 use Rattle.layout.specs.Rows.{First}
-use Rattle.layout.specs.Recordings.{unlessRefused, answered, recordingOf, partOf}
+use Rattle.layout.specs.Recordings.{unlessRefused, recordingBy, recordingOf, partOf}
 use Rattle.layout.specs.declared.Verdict.{Verdict}
 use Rattle.layout.specs.declared.Recording.{Recording}
 
@@ -26,7 +26,7 @@ abbrev pub Parted : List ℕ → ℕ → List ℕ → Type 0
 Parted file k part = part ≡ partOf file k
 
 -- no second result meets any of them
-pub record NoSecondAnswer : Type 0 where
+pub record NoSecondOfFile : Type 0 where
   pub check : (file : List ℕ) → NoSecond Verdict (Checked file)
   pub recording : (file : List ℕ) (k : ℕ) → NoSecond Recording (Recorded file k)
   pub part : (file : List ℕ) (k : ℕ) → NoSecond (List ℕ) (Parted file k)
@@ -39,11 +39,11 @@ pub record Zeros (r : Recording) : Type 0 where
   pub set : r .set ≡ 0
   pub last : r .last ≡ 0
 
-pub record Demand1 (file : List ℕ) (k : ℕ) (v : Verdict) (r : Recording) (part : List ℕ) : Type 0 where
+pub record FileDemand1 (file : List ℕ) (k : ℕ) (v : Verdict) (r : Recording) (part : List ℕ) : Type 0 where
   -- the check says a row's number and place exactly if that row is the first that applies, good exactly if the file has the layout, and nothing else
-  pub refusedBy : (row : Row) → (v ≡ said (numberOf row) (placeOf file row)) ↔ First file row
+  pub refusedBy : (row : Row) → (v ≡ numberAt (numberOf row) (placeOf file row)) ↔ First file row
   pub accepted : (v ≡ good) ↔ Layout file
-  pub nothingElse : (v ≡ good) ⊎ ((row : Row) × (v ≡ said (numberOf row) (placeOf file row)))
+  pub nothingElse : (v ≡ good) ⊎ ((row : Row) × (v ≡ numberAt (numberOf row) (placeOf file row)))
   -- the place lies in the file, or is its end
   pub inFile : v .place ≤ length file
   -- a recording of a refused file has the file's number and place, whatever recording is asked for
@@ -58,8 +58,8 @@ pub record Demand1 (file : List ℕ) (k : ℕ) (v : Verdict) (r : Recording) (pa
   pub noPart : (r .number ≡ 0 → ⊥) → part ≡ []
 
 -- of a recording that was answered: its fields are the entry's, its part is in the file, and is the bytes that they tell
-pub record Demand2 (file : List ℕ) (k : ℕ) (r : Recording) (part : List ℕ) : Type 0 where
-  pub entry : r ≡ answered (entryAt file k)
+pub record FileDemand2 (file : List ℕ) (k : ℕ) (r : Recording) (part : List ℕ) : Type 0 where
+  pub entry : r ≡ recordingBy (entryAt file k)
   pub someTriangles : 0 < r .count
   pub knownSet : r .set ≤ 2
   pub lastZero : r .last ≡ 0
@@ -71,12 +71,12 @@ pub record Demand2 (file : List ℕ) (k : ℕ) (r : Recording) (part : List ℕ)
 abbrev pub FileFirst : Type 1
 FileFirst = (A : Type 0) (file : List ℕ) (refusedBy : Verdict → A) (answer : A) → (verdict file .number ≡ 0 → ⊥) → unlessRefused file refusedBy answer ≡ refusedBy (verdict file)
 
-abbrev pub ReturnedTwo : Type 0
-ReturnedTwo = (file : List ℕ) (k : ℕ) (r : Recording) (part : List ℕ) → Recorded file k r → Parted file k part → r .number ≡ 0 → Demand2 file k r part
+abbrev pub FileReturnedTwo : Type 0
+FileReturnedTwo = (file : List ℕ) (k : ℕ) (r : Recording) (part : List ℕ) → Recorded file k r → Parted file k part → r .number ≡ 0 → FileDemand2 file k r part
 
 -- and a part with no bytes is one that was refused
 abbrev pub EmptyRefused : Type 0
 EmptyRefused = (file : List ℕ) (k : ℕ) (r : Recording) (part : List ℕ) → Recorded file k r → Parted file k part → part ≡ [] → r .number ≡ 0 → ⊥
 
-abbrev pub ReturnedOne : Type 0
-ReturnedOne = (file : List ℕ) (k : ℕ) (v : Verdict) (r : Recording) (part : List ℕ) → Checked file v → Recorded file k r → Parted file k part → Demand1 file k v r part
+abbrev pub FileReturnedOne : Type 0
+FileReturnedOne = (file : List ℕ) (k : ℕ) (v : Verdict) (r : Recording) (part : List ℕ) → Checked file v → Recorded file k r → Parted file k part → FileDemand1 file k v r part

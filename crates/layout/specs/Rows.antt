@@ -5,9 +5,9 @@ use mathlib.Core.Logic.{_⊎_, _↔_}
 use mathlib.Core.List.{List, List·Memᴰ}
 use lib.ListN.{length}
 use lib.IntN.{ℤ, pos, natAbs}
-use Rattle.layout.specs.Parts.{Triangle, numbersOf, tablePlace, countOf, storedLength, entryAt, endBefore, endOf, triangleAt}
+use Rattle.layout.specs.Parts.{Triangle, numbersOf, tablePlace, countOf, storedLength, entryAt, endBefore, partEnd, triangleAt}
 use Rattle.layout.specs.Rules.{twiceArea}
-use Rattle.layout.specs.Verdict.{Row, badLength, otherLength, badTrailer, badEntry, idAgain, wrongEnd, outOfRange, flat, numberOf, placeOf, said, good, verdict}
+use Rattle.layout.specs.Verdict.{Row, badLength, otherLength, badTrailer, badEntry, idAgain, wrongEnd, outOfRange, flat, numberOf, placeOf, numberAt, good, verdict}
 use Rattle.layout.specs.declared.Entry.{Entry}
 
 abbrev pub BadLength : ℕ → Type 0
@@ -44,7 +44,7 @@ Applies file otherLength = OtherLength (storedLength file) (length file)
 Applies file badTrailer = BadTrailer (tablePlace file) (countOf file) (length file)
 Applies file (badEntry i) = (i < countOf file) × BadEntry (entryAt file i) (endBefore file i)
 Applies file (idAgain i) = (i < countOf file) × IdSeen (λ j. entryAt file j .id) i
-Applies file wrongEnd = WrongEnd (λ i. endOf (entryAt file i)) (countOf file) (tablePlace file)
+Applies file wrongEnd = WrongEnd (λ i. partEnd (entryAt file i)) (countOf file) (tablePlace file)
 Applies file (outOfRange k) = (24 * k + 24 ≤ tablePlace file) × OutOfRange (triangleAt file k)
 Applies file (flat k) = (24 * k + 24 ≤ tablePlace file) × Flat (triangleAt file k)
 
@@ -69,18 +69,18 @@ turnOf wrongEnd = 0
 turnOf (outOfRange k) = 2 * k
 turnOf (flat k) = 2 * k + 1
 
-abbrev pub Before : Row → Row → Type 0
-Before a b = (stageOf a < stageOf b) ⊎ ((stageOf a ≡ stageOf b) × (turnOf a < turnOf b))
+abbrev pub Earlier : Row → Row → Type 0
+Earlier a b = (stageOf a < stageOf b) ⊎ ((stageOf a ≡ stageOf b) × (turnOf a < turnOf b))
 
 -- the row applies and no earlier row does
 pub record First (file : List ℕ) (row : Row) : Type 0 where
   pub applies : Applies file row
-  pub noneBefore : (earlier : Row) → Before earlier row → Applies file earlier → ⊥
+  pub noneBefore : (earlier : Row) → Earlier earlier row → Applies file earlier → ⊥
 
 pub record ExactlyWhen (file : List ℕ) : Type 0 where
   -- a row's number and place are said exactly if it applies and no earlier row does
-  pub refusedBy : (row : Row) → (verdict file ≡ said (numberOf row) (placeOf file row)) ↔ First file row
+  pub refusedBy : (row : Row) → (verdict file ≡ numberAt (numberOf row) (placeOf file row)) ↔ First file row
   -- nothing is said against the file exactly if no row applies
   pub accepted : (verdict file ≡ good) ↔ ((row : Row) → Applies file row → ⊥)
   -- and nothing else is ever said
-  pub nothingElse : (verdict file ≡ good) ⊎ ((row : Row) × (verdict file ≡ said (numberOf row) (placeOf file row)))
+  pub nothingElse : (verdict file ≡ good) ⊎ ((row : Row) × (verdict file ≡ numberAt (numberOf row) (placeOf file row)))

@@ -6,7 +6,7 @@ use mathlib.Core.List.{List, [], _∷_, _++_}
 use lib.Dec.{eqb}
 use Rattle.layout.specs.Parts.{countOf, entryPlace, entryAt, endBefore, trianglePlace, triangleAt, trianglesOf}
 use Rattle.layout.specs.Rules.{isSeen, entryRule, triangleRule}
-use Rattle.layout.specs.Verdict.{Row, badLength, otherLength, badTrailer, badEntry, idAgain, wrongEnd, outOfRange, flat, idsBefore, inTurn, firstOf, said, verdict}
+use Rattle.layout.specs.Verdict.{Row, badLength, otherLength, badTrailer, badEntry, idAgain, wrongEnd, outOfRange, flat, idsBefore, inTurn, firstOf, numberAt, verdict}
 use Rattle.layout.specs.declared.Verdict.{Verdict}
 
 -- the first of two that is a refusal
@@ -15,7 +15,7 @@ orElse v w = cond (eqb (v .number) 0) w v
 
 -- a number at a place, or what comes after it
 abbrev pub atOr : ℕ → ℕ → Verdict → Verdict
-atOr number place rest = cond (eqb number 0) rest (said number place)
+atOr number place rest = cond (eqb number 0) rest (numberAt number place)
 
 module _ (file : List ℕ) where
   abbrev pub trailerRows : List Row

@@ -29,11 +29,11 @@ numberOf (outOfRange k) = 17
 numberOf (flat k) = 18
 
 -- a number and a place; 0 and 0 of a good file
-abbrev pub said : ℕ → ℕ → Verdict
-said number place = record { number = number; place = place }
+abbrev pub numberAt : ℕ → ℕ → Verdict
+numberAt number place = record { number = number; place = place }
 
 abbrev pub good : Verdict
-good = said 0 0
+good = numberAt 0 0
 
 -- of m things from number i on, each in turn: its first row, then its second
 unfoldable pub inTurn : (ℕ → Row) → (ℕ → Row) → ℕ → ℕ → List Row
@@ -75,7 +75,7 @@ module _ (file : List ℕ) where
   unfoldable pub firstOf : List Row → Verdict
   unfolding test placeOf
   firstOf [] = good
-  firstOf (row ∷ rows) = let rest = firstOf rows in cond (test row) (said (numberOf row) (placeOf row)) rest
+  firstOf (row ∷ rows) = let rest = firstOf rows in cond (test row) (numberAt (numberOf row) (placeOf row)) rest
 
   -- all rows in their order: 11, 12, 13; the entries in turn, 14 before 16; 15; the triangles in turn, 17 before 18
   unfoldable pub rows : List Row

@@ -5,8 +5,8 @@ use mathlib.Core.List.{List, [], _∷_, _++_}
 use lib.ListN.{length}
 use lib.IntN.{pos, negsuc}
 use Rattle.layout.specs.Parts.{triangleAt}
-use Rattle.layout.specs.Verdict.{said, good, verdict}
-use Rattle.layout.specs.Recordings.{refused, recordingOf, partOf}
+use Rattle.layout.specs.Verdict.{numberAt, good, verdict}
+use Rattle.layout.specs.Recordings.{noRecording, recordingOf, partOf}
 use Rattle.layout.specs.declared.Verdict.{Verdict}
 use Rattle.layout.specs.declared.Recording.{Recording}
 
@@ -104,7 +104,7 @@ double = v ++ (u ++ (changed 7 0 2 0 0 0 ++ trailer 48 1 72))
 
 -- ---- what is said
 abbrev pub refusedFile : List ℕ → ℕ → ℕ → Case
-refusedFile file number place = record { file = file; k = 0; file-says = said number place; recording-says = refused (said number place); part = [] }
+refusedFile file number place = record { file = file; k = 0; file-says = numberAt number place; recording-says = noRecording (numberAt number place); part = [] }
 
 abbrev pub answeredFile : List ℕ → ℕ → ℕ → ℕ → ℕ → ℕ → List ℕ → Case
 answeredFile file k id first count set part = record {
@@ -115,15 +115,15 @@ answeredFile file k id first count set part = record {
   part = part;
 }
 
-abbrev pub noRecording : List ℕ → ℕ → Case
-noRecording file k = record { file = file; k = k; file-says = good; recording-says = refused (said 10 0); part = [] }
+abbrev pub noSuchRecording : List ℕ → ℕ → Case
+noSuchRecording file k = record { file = file; k = k; file-says = good; recording-says = noRecording (numberAt 10 0); part = [] }
 
 abbrev pub cases : List Case
 cases =
-    noRecording (trailer 0 0 12) 0
+    noSuchRecording (trailer 0 0 12) 0
     ∷ answeredFile example 0 7 0 1 0 v
     ∷ answeredFile example 1 9 24 1 1 u
-    ∷ noRecording example 2
+    ∷ noSuchRecording example 2
     ∷ answeredFile double 0 7 0 2 0 (v ++ u)
     ∷ answeredFile (pairOf v far seven large) 1 67305985 24 1 2 far
     -- 11 of no bytes and of eleven; 12; 13: table 4, 65 recordings, and a table whose end is the file's but for 2^32
@@ -165,4 +165,4 @@ SecondTriangle = triangleAt example 1 ≡ record { v0 = record { x = pos 1; y = 
 
 -- a file that is too long, whatever is in it
 abbrev pub TooLong : Type 0
-TooLong = (file : List ℕ) → 65536 < length file → verdict file ≡ said 11 0
+TooLong = (file : List ℕ) → 65536 < length file → verdict file ≡ numberAt 11 0

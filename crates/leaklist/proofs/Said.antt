@@ -9,10 +9,10 @@ use lib.Dec.{eqb, ltb}
 use borrow.Author.Tests.{eqb-true, eqb-false, ne-eqb, ltb-true, ltb-false}
 use lib.ListN.{length}
 use Rattle.layout.specs.declared.Verdict.{Verdict}
-use Rattle.layout.specs.Verdict.{Row, badLength, placeOf, said, verdict}
-use Rattle.layout.specs.Rows.{Before, First}
+use Rattle.layout.specs.Verdict.{Row, badLength, placeOf, numberAt, verdict}
+use Rattle.layout.specs.Rows.{Earlier, First}
 use Rattle.layout.specs.Recordings.{recordingOf, partOf}
-use Rattle.layout.specs.Promise.{Demand1}
+use Rattle.layout.specs.Promise.{FileDemand1}
 use Rattle.layout.proofs.Returned.{returned-one, number-range, is-good, has-layout}
 use Rattle.listing.specs.Words.{listText, refusedLine}
 use Rattle.listing.specs.Enough.{Bytes}
@@ -25,19 +25,19 @@ use Rattle.wording.proofs.Lines.{refused-length}
 -- ---- the place of a refusal: in a file of at most 65,536 bytes it lies in the file, and a longer one is refused at 0
 module _ (file : List ℕ) where
   -- demand 1 of files, of this file
-  abbrev demand : Demand1 file 0 (verdict file) (recordingOf file 0) (partOf file 0)
+  abbrev demand : FileDemand1 file 0 (verdict file) (recordingOf file 0) (partOf file 0)
   demand = returned-one file 0 (verdict file) (recordingOf file 0) (partOf file 0) refl refl refl
 
   -- of a longer file the first row applies, and no row is before it
   too-long : 65536 < length file → First file badLength
   too-long h = record { applies = inr h; noneBefore = λ row b a. none row b }
     where
-      none : (row : Row) → Before row badLength → ⊥
+      none : (row : Row) → Earlier row badLength → ⊥
       none row (inl l) = omega (arith, l)
       none row (inr l) = let t = l .1 in omega (arith, t)
 
   -- so it is refused at 0, whatever its bytes are
-  pub over-length : 65536 < length file → verdict file ≡ said 11 0
+  pub over-length : 65536 < length file → verdict file ≡ numberAt 11 0
   unfolding placeOf
   over-length h = demand .refusedBy badLength .1 (too-long h)
 

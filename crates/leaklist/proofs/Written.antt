@@ -9,17 +9,17 @@ use borrow.Author.Tests.{eq-eqb, ne-eqb}
 use lib.ListN.{length}
 use Rattle.text.specs.Room.{laid, Put}
 use Rattle.text.proofs.Room.{put-front}
-use Rattle.layout.specs.Verdict.{verdict, said}
+use Rattle.layout.specs.Verdict.{verdict, numberAt}
 use Rattle.layout.specs.declared.Verdict.{Verdict}
 use Rattle.layout.specs.Layout.{Layout}
 use Rattle.layout.proofs.Returned.{is-good}
 use Rattle.listing.specs.declared.Listed.{Listed}
 use Rattle.listing.specs.Leaks.{leaks}
 use Rattle.listing.specs.Words.{listText, refusedLine}
-use Rattle.listing.specs.Listing.{refused, tooShort, answered, listOf}
-use Rattle.listing.specs.Promise.{Promise}
+use Rattle.listing.specs.Listing.{noList, tooShort, listIn, listOf}
+use Rattle.listing.specs.Promise.{ListPromise}
 use Rattle.listing.proofs.Returned.{by-file, past-file, by-list, returned-one}
-use Rattle.writing.specs.Triples.{leaksIn, heldIn, textOf, wholeOf, WrittenAs}
+use Rattle.writing.specs.Triples.{leaksIn, heldIn, textOf, listFrom, WrittenAs}
 use Rattle.writing.proofs.Written.{held-all}
 use Rattle.leaklist.specs.Code.{toldOf}
 
@@ -28,37 +28,37 @@ text-of-leaks : (file : List ℕ) → listText file ≡ textOf (leaks file)
 unfolding listText
 text-of-leaks file = append-nil (textOf (leaks file))
 
-same-whole : (file room : List ℕ) → verdict file .number ≡ 0 → listOf file room ≡ wholeOf (leaks file) room
-unfolding wholeOf
-same-whole file room z = past-file file room z ∙ ap (λ t. cond (ltb (length room) (length t)) (refused room tooShort) (answered room t (length (leaks file)))) (text-of-leaks file)
+same-whole : (file room : List ℕ) → verdict file .number ≡ 0 → listOf file room ≡ listFrom (leaks file) room
+unfolding listFrom
+same-whole file room z = past-file file room z ∙ ap (λ t. cond (ltb (length room) (length t)) (noList room tooShort) (listIn room t (length (leaks file)))) (text-of-leaks file)
 
-pub keeps : (file room found : List ℕ) (k : ℕ) {r : Listed} {after : List ℕ} → Layout file → leaksIn found k ≡ leaks file → WrittenAs (leaksIn found (heldIn found k)) room r after → k ≤ 4096 → length found ≡ 12288 → Promise file room r after
+pub keeps : (file room found : List ℕ) (k : ℕ) {r : Listed} {after : List ℕ} → Layout file → leaksIn found k ≡ leaks file → WrittenAs (leaksIn found (heldIn found k)) room r after → k ≤ 4096 → length found ≡ 12288 → ListPromise file room r after
 keeps file room found k {r} {after} good h w most size =
     let s = same-whole file room (is-good file good) in
     let all = ap (leaksIn found) (held-all found k most (omega (arith, most, size))) ∙ h in
-    record { result-is = w .result-is ∙ (ap (λ l. wholeOf l room .result) all ∙ ap (λ v. v .result) (sym s)); after-is = w .after-is ∙ (ap (λ l. wholeOf l room .room) all ∙ ap (λ v. v .room) (sym s)) }
+    record { result-is = w .result-is ∙ (ap (λ l. listFrom l room .result) all ∙ ap (λ v. v .result) (sym s)); after-is = w .after-is ∙ (ap (λ l. listFrom l room .room) all ∙ ap (λ v. v .room) (sym s)) }
 
 -- ---- a refused file
-pub keeps-refusal : (file room : List ℕ) {v : Verdict} {r : Listed} → v ≡ verdict file → (v .number ≡ 0 → ⊥) → r ≡ refused [] (said (v .number) (v .place)) .result → Promise file room r room
+pub keeps-refusal : (file room : List ℕ) {v : Verdict} {r : Listed} → v ≡ verdict file → (v .number ≡ 0 → ⊥) → r ≡ noList [] (numberAt (v .number) (v .place)) .result → ListPromise file room r room
 keeps-refusal file room {v} h n p =
     let s = by-file file room (λ z. n (ap (λ x. x .number) h ∙ z)) in
-    record { result-is = p ∙ (ap (λ x. refused [] x .result) h ∙ ap (λ w. w .result) (sym s)); after-is = ap (λ w. w .room) (sym s) }
+    record { result-is = p ∙ (ap (λ x. noList [] x .result) h ∙ ap (λ w. w .result) (sym s)); after-is = ap (λ w. w .room) (sym s) }
 
 -- ---- what is told of a file
-told-no : (file room : List ℕ) {a : Listed} → a ≡ listOf file room .result → (a .number ≡ 0 → ⊥) → refusedLine (said (a .number) (a .place)) ≡ toldOf file room
+told-no : (file room : List ℕ) {a : Listed} → a ≡ listOf file room .result → (a .number ≡ 0 → ⊥) → refusedLine (numberAt (a .number) (a .place)) ≡ toldOf file room
 unfolding toldOf
-told-no file room h n = ap (λ r. refusedLine (said (r .number) (r .place))) h ∙ sym (rw (ne-eqb (listOf file room .result .number) 0 (λ z. n (ap (λ r. r .number) h ∙ z))) refl)
+told-no file room h n = ap (λ r. refusedLine (numberAt (r .number) (r .place))) h ∙ sym (rw (ne-eqb (listOf file room .result .number) 0 (λ z. n (ap (λ r. r .number) h ∙ z))) refl)
 
 told-yes : (file room : List ℕ) → listOf file room .result .number ≡ 0 → listText file ≡ toldOf file room
 unfolding toldOf
 told-yes file room z = sym (rw (eq-eqb (listOf file room .result .number) 0 z) refl)
 
-pub told-refused : (file room : List ℕ) {a : Listed} {mid after : List ℕ} {r : ℕ} → Promise file room a mid → (a .number ≡ 0 → ⊥) → Put mid 0 (refusedLine (said (a .number) (a .place))) after r → Put room 0 (toldOf file room) after r
+pub told-refused : (file room : List ℕ) {a : Listed} {mid after : List ℕ} {r : ℕ} → ListPromise file room a mid → (a .number ≡ 0 → ⊥) → Put mid 0 (refusedLine (numberAt (a .number) (a .place))) after r → Put room 0 (toldOf file room) after r
 told-refused file room {a} {mid} {after} {r} p n q =
     let same = returned-one file room a mid p .zeros n .2 in
-    subst (λ t. Put room 0 t after r) (told-no file room (p .result-is) n) (subst (λ m. Put m 0 (refusedLine (said (a .number) (a .place))) after r) same q)
+    subst (λ t. Put room 0 t after r) (told-no file room (p .result-is) n) (subst (λ m. Put m 0 (refusedLine (numberAt (a .number) (a .place))) after r) same q)
 
-pub told-list : (file room : List ℕ) {a : Listed} {after : List ℕ} → Promise file room a after → a .number ≡ 0 → Put room 0 (toldOf file room) after (a .length)
+pub told-list : (file room : List ℕ) {a : Listed} {after : List ℕ} → ListPromise file room a after → a .number ≡ 0 → Put room 0 (toldOf file room) after (a .length)
 told-list file room {a} {after} p z =
     let d = returned-one file room a after p in
     let fit = d .answered .0 z in

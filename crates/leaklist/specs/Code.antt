@@ -14,7 +14,7 @@ use Rattle.shapes.specs.Shapes.{shapeOf, Made, twelve}
 use Rattle.layout.specs.Parts.{countOf, entryAt, trianglesOf}
 use Rattle.layout.specs.Layout.{Layout}
 use Rattle.layout.specs.Recordings.{f64At}
-use Rattle.layout.specs.Verdict.{said}
+use Rattle.layout.specs.Verdict.{numberAt}
 use Rattle.listing.specs.declared.Tally.{Tally}
 use Rattle.listing.specs.Turns.{upTo, each, folded}
 use Rattle.listing.specs.Pairs.{isTest, isTraining, tallied, noneYet}
@@ -103,4 +103,4 @@ module _ (file : List ℕ) where
 
 -- ---- what is told of a file where the room is this one: the list, or how it is refused
 unfoldable pub toldOf : List ℕ → List ℕ → List ℕ
-toldOf file room = let r = listOf file room .result in cond (eqb (r .number) 0) (listText file) (refusedLine (said (r .number) (r .place)))
+toldOf file room = let r = listOf file room .result in cond (eqb (r .number) 0) (listText file) (refusedLine (numberAt (r .number) (r .place)))

@@ -5,7 +5,7 @@ mod tallies;
 
 ghost use Rattle.layout.specs.Layout.{Layout};
 ghost use Rattle.text.specs.Room.{Put};
-ghost use Rattle.listing.specs.Promise.{Promise};
+ghost use Rattle.listing.specs.Promise.{ListPromise};
 ghost use Rattle.leaklist.specs.Code.{toldOf};
 use found::gather;
 use found::no_leaks;
@@ -15,7 +15,7 @@ use prepared::prepare;
 // A good file's list.
 fn listed(file: &[u8], room: &mut [u8]) -> listing::Listed
     requires { ⌜ Layout (now file) ⌝ }
-    ensures { λ r. ⌜ Promise (now (file .entry)) (now (room .entry)) r (now (room .exit)) ⌝ }
+    ensures { λ r. ⌜ ListPromise (now (file .entry)) (now (room .entry)) r (now (room .exit)) ⌝ }
 {
     let n = file.len();
     let at = reading::u32_at(file, n - 12) as usize;
@@ -29,11 +29,11 @@ fn listed(file: &[u8], room: &mut [u8]) -> listing::Listed
 
 // The leak list of a file's bytes, to the front of the room, or a refusal, with the room as it was: the file's own, or 7 where the room is shorter than the list.
 pub fn leaks(file: &[u8], room: &mut [u8]) -> listing::Listed
-    ensures { λ r. ⌜ Promise (now (file .entry)) (now (room .entry)) r (now (room .exit)) ⌝ }
+    ensures { λ r. ⌜ ListPromise (now (file .entry)) (now (room .entry)) r (now (room .exit)) ⌝ }
 {
     let v = footprint::check(file);
     if v.number != 0 {
-        return writing::refused(v.number, v.place);
+        return writing::no_list(v.number, v.place);
     }
     listed(file, room)
 }

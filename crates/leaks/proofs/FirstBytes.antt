@@ -8,7 +8,7 @@ use lib.Dec.{ltb}
 use lib.ListN.{length, take, length-take}
 use lib.Seq.{take-all}
 use borrow.Author.Tests.{ltb-true, ltb-false}
-use Rattle.layout.specs.Verdict.{said, verdict}
+use Rattle.layout.specs.Verdict.{numberAt, verdict}
 use Rattle.layout.specs.Recordings.{unlessRefused}
 use Rattle.layout.specs.declared.Verdict.{Verdict}
 use Rattle.layout.proofs.Returned.{file-first}
@@ -18,7 +18,7 @@ use Rattle.leaklist.proofs.Said.{over-length}
 use Rattle.leaks.specs.Answer.{FirstBytes}
 
 -- of a file that is too long
-too-long : (file : List ℕ) → 65536 < length file → outputOf file ≡ refusedLine (said 11 0)
+too-long : (file : List ℕ) → 65536 < length file → outputOf file ≡ refusedLine (numberAt 11 0)
 unfolding outputOf
 too-long file h =
     let v = over-length file h in

@@ -17,7 +17,7 @@ use Rattle.input.specs.declared.Got.{Got}
 use Rattle.input.specs.declared.Piece.{Piece}
 use Rattle.input.specs.declared.Piece.the-variants.{Failed, Ended, More}
 use Rattle.input.specs.Reading.{isRead, Stopped}
-use Rattle.leaks.specs.Answer.{AtFront, NoSecondFront, saidOf, Delivered}
+use Rattle.leaks.specs.Answer.{AtFront, NoSecondFront, outputFor, Delivered}
 use Rattle.leaks.proofs.FirstBytes.{first-bytes}
 
 -- the text stands at the front
@@ -51,14 +51,14 @@ module _ (g : Got) (space room : List ℕ) where
       go (More k) e = d .bytes ∙ ap (λ m. take m input) (s .full k e)
 
   -- what is said of what was read
-  pub of-read : {after : List ℕ} {n : ℕ} → isRead (g .last) ≡ true → AtFront (outputOf (take (g .n) space)) room n after → AtFront (saidOf g space) room n after
+  pub of-read : {after : List ℕ} {n : ℕ} → isRead (g .last) ≡ true → AtFront (outputOf (take (g .n) space)) room n after → AtFront (outputFor g space) room n after
   of-read ok p = rw ok p
 
   -- and nothing, where a read failed
-  pub of-failed : isRead (g .last) ≡ false → AtFront (saidOf g space) room 0 room
+  pub of-failed : isRead (g .last) ≡ false → AtFront (outputFor g space) room 0 room
   of-failed failed = rw failed (record { put = put-none room 0; fits = omega arith })
 
   -- in a space of 65,537 bytes there is enough of any input
-  pub of-input : {after : List ℕ} {n : ℕ} → 65537 ≤ length space → Stopped (length space) g → AtFront (saidOf g space) room n after → isRead (g .last) ≡ true → (input : List ℕ) → Delivered g space input → take n after ≡ outputOf input
+  pub of-input : {after : List ℕ} {n : ℕ} → 65537 ≤ length space → Stopped (length space) g → AtFront (outputFor g space) room n after → isRead (g .last) ≡ true → (input : List ℕ) → Delivered g space input → take n after ≡ outputOf input
   of-input enough s p ok input d =
       stands p ∙ (rw ok refl ∙ (ap outputOf (as-much input ok s d) ∙ first-bytes (length space) enough input))

@@ -28,8 +28,8 @@ abbrev pub NoSecondFront : Type 0
 NoSecondFront = (text room a b : List ℕ) (m n : ℕ) → AtFront text room m a → AtFront text room n b → (m ≡ n) × (a ≡ b)
 
 -- what is said of the bytes that were read into the space: nothing, where a read failed
-abbrev pub saidOf : Got → List ℕ → List ℕ
-saidOf g space = cond (isRead (g .last)) (outputOf (take (g .n) space)) []
+abbrev pub outputFor : Got → List ℕ → List ℕ
+outputFor g space = cond (isRead (g .last)) (outputOf (take (g .n) space)) []
 
 -- what the reads are trusted with: the bytes in the space are the input's, from its first on, and where a read says that the input has ended, there are no more
 pub record Delivered (g : Got) (space input : List ℕ) : Type 0 where
@@ -39,7 +39,7 @@ pub record Delivered (g : Got) (space input : List ℕ) : Type 0 where
 -- what is promised of the reply to an input: the reading stopped as it should; what is said of the bytes in the space stands at the front of the room; and if they were delivered, that is what is to be said of the whole input
 pub record Replied (space room : List ℕ) (r : Reply) (after : List ℕ) : Type 0 where
   pub stopped : Stopped (length space) (r .got)
-  pub said : AtFront (saidOf (r .got) space) room (r .n) after
+  pub said : AtFront (outputFor (r .got) space) room (r .n) after
   pub whole : isRead (r .got .last) ≡ true → (input : List ℕ) → Delivered (r .got) space input → take (r .n) after ≡ outputOf input
 
 -- what is to be said of an input turns on its first 65,537 bytes

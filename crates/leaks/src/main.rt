@@ -9,7 +9,7 @@ ghost use mathlib.Core.Path.{_≡_};
 ghost use lib.ListN.{length, take};
 ghost use Rattle.listing.specs.Listing.{outputOf};
 ghost use Rattle.input.specs.Reading.{Stopped};
-ghost use Rattle.leaks.specs.Answer.{Took, AtFront, saidOf, Replied};
+ghost use Rattle.leaks.specs.Answer.{Took, AtFront, outputFor, Replied};
 
 // One byte more than a file may have.
 const SPACE: usize = 65537;
@@ -55,7 +55,7 @@ fn output(file: &[u8], room: &mut [u8; ROOM]) -> usize
 
 // What is to be said of the input, where so much of it was read into the space: nothing, where a read failed.
 fn answer(g: Got, space: &[u8; SPACE], room: &mut [u8; ROOM]) -> usize
-    ensures { λ r. ⌜ AtFront (saidOf g (now (space .entry))) (now (room .entry)) r (now (room .exit)) ⌝ }
+    ensures { λ r. ⌜ AtFront (outputFor g (now (space .entry))) (now (room .entry)) r (now (room .exit)) ⌝ }
 {
     let n = g.n;
     if input::is_read(g) {

@@ -10,7 +10,7 @@ use borrow.Author.Tests.{eqb-true}
 use Rattle.floats.specs.Lists.{filter, count, once, differ}
 use Rattle.floats.proofs.Lists.{filter-append, each, same-by-three}
 use Rattle.lines.specs.Crossings.{Crossing, flip, walk}
-use Rattle.lines.specs.Round.{apart, crossingsOf, crossings, hits, cornerBy, edgesAcross, Meets, Agrees}
+use Rattle.lines.specs.Round.{onBothSides, crossingsOf, crossings, hits, cornerBy, edgesAcross, MeetsOnce, Agrees}
 use Rattle.lines.proofs.Count.{round, across}
 use Rattle.lines.proofs.Two.{seen, unlike, says, say-at, short}
 
@@ -20,8 +20,8 @@ map-append f [] y = refl
 map-append f (a ∷ x) y = ap (f a ∷_) (map-append f x y)
 
 -- what decides of a corner: two crossings of one of its lines, and that their signs on the other are unlike
-apart-is : (b : ℕ) (l : List Crossing) → apart b l ≡ unlike (map (λ c. (c .signs) b) l)
-unfolding apart unlike
+apart-is : (b : ℕ) (l : List Crossing) → onBothSides b l ≡ unlike (map (λ c. (c .signs) b) l)
+unfolding onBothSides unlike
 apart-is b [] = refl
 apart-is b (c ∷ []) = refl
 apart-is b (c ∷ d ∷ []) = refl
@@ -128,7 +128,7 @@ says-is a b d u o =
     ∙ ap₂ _++_ (seen-is a b d 0 (u 0) (o 0)) (map-append _ (hitsOn 1 (u 1) (o 1) a) (hitsOn 2 (u 2) (o 2) a)
     ∙ ap₂ _++_ (seen-is a b d 1 (u 1) (o 1)) (seen-is a b d 2 (u 2) (o 2)))))
 
-module _ (u : ℕ → ℕ → Bool) (o : ℕ → List ℕ) (m : Meets u o) where
+module _ (u : ℕ → ℕ → Bool) (o : ℕ → List ℕ) (m : MeetsOnce u o) where
   agree-distinct : (a b : ℕ) → (eqb a b ≡ true → ⊥) → cornerBy u o a b ≡ cornerBy u o b a
   agree-distinct a b d =
       says-is a b d u o

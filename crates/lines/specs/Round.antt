@@ -12,11 +12,11 @@ use Rattle.lines.specs.Lines.{three, start}
 use Rattle.lines.specs.Crossings.{Crossing, crosses, crossers, walk}
 
 -- two crossings whose signs on b differ
-unfoldable pub apart : ℕ → List Crossing → Bool
-apart b [] = false
-apart b (c ∷ []) = false
-apart b (c ∷ d ∷ []) = differ ((c .signs) b) ((d .signs) b)
-apart b (c ∷ d ∷ e ∷ r) = false
+unfoldable pub onBothSides : ℕ → List Crossing → Bool
+onBothSides b [] = false
+onBothSides b (c ∷ []) = false
+onBothSides b (c ∷ d ∷ []) = differ ((c .signs) b) ((d .signs) b)
+onBothSides b (c ∷ d ∷ e ∷ r) = false
 
 module _ (u : ℕ → ℕ → Bool) (o : ℕ → List ℕ) where
   -- the crossings of edge e, walked from its start
@@ -36,15 +36,15 @@ module _ (u : ℕ → ℕ → Bool) (o : ℕ → List ℕ) where
 
   -- what line a says of V's corner on a and b: it is in U where a's two crossings stand on different sides of b
   unfoldable pub cornerBy : ℕ → ℕ → Bool
-  unfolding apart hits
-  cornerBy a b = apart b (hits a)
+  unfolding onBothSides hits
+  cornerBy a b = onBothSides b (hits a)
 
 -- how many of the edges between U's vertices cross line a
 abbrev pub edgesAcross : (ℕ → ℕ → Bool) → ℕ → ℕ
 edgesAcross u a = crossers (λ i. u i a) three
 
 -- each edge meets each line that it crosses once, and no other
-pub record Meets (u : ℕ → ℕ → Bool) (o : ℕ → List ℕ) : Type 0 where
+pub record MeetsOnce (u : ℕ → ℕ → Bool) (o : ℕ → List ℕ) : Type 0 where
   pub edge0 : (a : ℕ) → count (eqb a) (o 0) ≡ once (crosses (u 0) (u 1) a)
   pub edge1 : (a : ℕ) → count (eqb a) (o 1) ≡ once (crosses (u 1) (u 2) a)
   pub edge2 : (a : ℕ) → count (eqb a) (o 2) ≡ once (crosses (u 2) (u 0) a)

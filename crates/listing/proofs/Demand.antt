@@ -14,7 +14,7 @@ use Rattle.layout.specs.Parts.{countOf, entryAt}
 use Rattle.listing.specs.Turns.{upTo}
 use Rattle.listing.specs.Pairs.{isTest, isTraining, decisions}
 use Rattle.listing.specs.Leaks.{tests, trainings, recordingPairs, pairsMeeting, isLeak, leakPairs, leakOf, leaks}
-use Rattle.listing.specs.Demand.{Leaking, Before, AllDecided, lineFor, noLeak, DemandTwo}
+use Rattle.listing.specs.Demand.{Leaking, InTableOrder, AllDecided, lineFor, noLeak, DemandTwo}
 use Rattle.listing.proofs.Turns.{below, reached, kept, passed, mapped, unmapped, in-each, of-each, Sorted, sorted-filter, sorted-map, sorted-each, sorted-upTo, sorted-at, map-at}
 use Rattle.listing.proofs.Tallied.{tally-counts, counted-one, one-counted, decision-in, decision-of, how-many, in-turn}
 
@@ -38,24 +38,24 @@ module _ (file : List ℕ) where
   unfolding trainings
   sorted-trainings = sorted-filter _<_ trainingAt (upTo (countOf file)) (sorted-upTo (countOf file))
 
-  sorted-pairs : Sorted Before (recordingPairs file)
+  sorted-pairs : Sorted InTableOrder (recordingPairs file)
   unfolding recordingPairs
-  sorted-pairs = sorted-each _<_ Before with (tests file) sorted-tests (λ i. sorted-map _<_ Before (λ j. (i, j)) (trainings file) (λ x y h. inr (refl, h)) sorted-trainings) across
+  sorted-pairs = sorted-each _<_ InTableOrder with (tests file) sorted-tests (λ i. sorted-map _<_ InTableOrder (λ j. (i, j)) (trainings file) (λ x y h. inr (refl, h)) sorted-trainings) across
     where
-      across : (x y : ℕ) → x < y → (p q : ℕ × ℕ) → List·Memᴰ p (with x) → List·Memᴰ q (with y) → Before p q
+      across : (x y : ℕ) → x < y → (p q : ℕ × ℕ) → List·Memᴰ p (with x) → List·Memᴰ q (with y) → InTableOrder p q
       across x y h p q m n =
           let r = unmapped (λ j. (x, j)) (trainings file) m in
           let s = unmapped (λ j. (y, j)) (trainings file) n in
           inl (subst (λ k. k < q .0) (sym (ap (λ t. t .0) (r .2))) (subst (λ k. x < k) (sym (ap (λ t. t .0) (s .2))) h))
 
-  sorted-leaks : Sorted Before (leakPairs file)
+  sorted-leaks : Sorted InTableOrder (leakPairs file)
   unfolding leakPairs
-  sorted-leaks = sorted-filter Before (isLeak file) (recordingPairs file) sorted-pairs
+  sorted-leaks = sorted-filter InTableOrder (isLeak file) (recordingPairs file) sorted-pairs
 
-  in-order : (k l : ℕ) → k < l → l < length (leakPairs file) → Before (lineFor file k) (lineFor file l)
-  in-order k l h n = sorted-at Before (leakPairs file) (0, 0) sorted-leaks k l h n
+  in-order : (k l : ℕ) → k < l → l < length (leakPairs file) → InTableOrder (lineFor file k) (lineFor file l)
+  in-order k l h n = sorted-at InTableOrder (leakPairs file) (0, 0) sorted-leaks k l h n
 
-  not-before : (p q : ℕ × ℕ) → Before p q → p ≡ q → ⊥
+  not-before : (p q : ℕ × ℕ) → InTableOrder p q → p ≡ q → ⊥
   not-before p q (inl h) e = let z = ap (λ t. t .0) e in omega (arith, h, z)
   not-before p q (inr h) e = let z = ap (λ t. t .1) e in let g = h .1 in omega (arith, g, z)
 

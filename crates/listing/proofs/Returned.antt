@@ -14,27 +14,27 @@ use Rattle.layout.specs.Verdict.{verdict, good}
 use Rattle.layout.proofs.Returned.{number-range, is-good, has-layout, file-first, not-refused}
 use Rattle.listing.specs.Leaks.{leaks}
 use Rattle.listing.specs.Words.{listText, refusedLine}
-use Rattle.listing.specs.Listing.{Whole, refused, tooShort, answered, listOf, outputOf}
-use Rattle.listing.specs.Promise.{NoSecondAnswer, Demand1, ReturnedOne, Written, ReturnedTwo, Outputs}
+use Rattle.listing.specs.Listing.{ListAndRoom, noList, tooShort, listIn, listOf, outputOf}
+use Rattle.listing.specs.Promise.{NoSecondList, ListDemand1, ListReturnedOne, Written, ListReturnedTwo, Outputs}
 use Rattle.listing.proofs.Demand.{demand2}
 
-pub unique : NoSecondAnswer
-unique file room r s a b p q = (p .result-is ∙ sym (q .result-is), p .after-is ∙ sym (q .after-is))
+pub no-second-list : NoSecondList
+no-second-list file room r s a b p q = (p .result-is ∙ sym (q .result-is), p .after-is ∙ sym (q .after-is))
 
 module _ (file room : List ℕ) where
   -- ---- the three ways
-  pub by-file : (verdict file .number ≡ 0 → ⊥) → listOf file room ≡ refused room (verdict file)
+  pub by-file : (verdict file .number ≡ 0 → ⊥) → listOf file room ≡ noList room (verdict file)
   unfolding listOf
-  by-file h = file-first Whole file (refused room) _ h
+  by-file h = file-first ListAndRoom file (noList room) _ h
 
-  pub past-file : verdict file .number ≡ 0 → listOf file room ≡ cond (ltb (length room) (length (listText file))) (refused room tooShort) (answered room (listText file) (length (leaks file)))
+  pub past-file : verdict file .number ≡ 0 → listOf file room ≡ cond (ltb (length room) (length (listText file))) (noList room tooShort) (listIn room (listText file) (length (leaks file)))
   unfolding listOf
-  past-file z = not-refused file (refused room) _ z
+  past-file z = not-refused file (noList room) _ z
 
-  pub by-room : verdict file .number ≡ 0 → length room < length (listText file) → listOf file room ≡ refused room tooShort
+  pub by-room : verdict file .number ≡ 0 → length room < length (listText file) → listOf file room ≡ noList room tooShort
   by-room z h = past-file z ∙ rw (lt-ltb (length room) (length (listText file)) h) refl
 
-  pub by-list : verdict file .number ≡ 0 → length (listText file) ≤ length room → listOf file room ≡ answered room (listText file) (length (leaks file))
+  pub by-list : verdict file .number ≡ 0 → length (listText file) ≤ length room → listOf file room ≡ listIn room (listText file) (length (leaks file))
   by-list z h = past-file z ∙ rw (le-ltb (length room) (length (listText file)) h) refl
 
   data Kind : Type 0 where
@@ -51,7 +51,7 @@ module _ (file room : List ℕ) where
       go true false p q = byList (eqb-true _ _ p) (ltb-false _ _ q)
 
   -- ---- demand 1
-  refusal-file : (h : verdict file .number ≡ 0 → ⊥) → Demand1 file room (refused room (verdict file) .result) room
+  refusal-file : (h : verdict file .number ≡ 0 → ⊥) → ListDemand1 file room (noList room (verdict file) .result) room
   refusal-file h =
       let n = number-range file h in
       record {
@@ -69,7 +69,7 @@ module _ (file room : List ℕ) where
       no-kind k h (inl z) = omega (arith, h, z)
       no-kind k h (inr z) = omega (arith, h, z)
 
-  refusal-room : (z : verdict file .number ≡ 0) → length room < length (listText file) → Demand1 file room (refused room tooShort .result) room
+  refusal-room : (z : verdict file .number ≡ 0) → length room < length (listText file) → ListDemand1 file room (noList room tooShort .result) room
   refusal-room z h = record {
     fileFirst = λ n. absurd (n z);
     tooShort = (λ e. (has-layout file z, h), λ p. refl);
@@ -84,7 +84,7 @@ module _ (file room : List ℕ) where
   stands : length (listText file) ≤ length room → WholeOrNothing room 0 (listText file) (laid room 0 (listText file)) (length (listText file))
   stands h = whole-or-nothing (put-front room (listText file) h)
 
-  an-answer : (z : verdict file .number ≡ 0) → length (listText file) ≤ length room → Demand1 file room (answered room (listText file) (length (leaks file)) .result) (laid room 0 (listText file))
+  an-answer : (z : verdict file .number ≡ 0) → length (listText file) ≤ length room → ListDemand1 file room (listIn room (listText file) (length (leaks file)) .result) (laid room 0 (listText file))
   an-answer z h = record {
     fileFirst = λ n. absurd (n z);
     tooShort = (λ e. absurd (omega (arith, e)), λ p. let g = p .1 in absurd (omega (arith, g, h)));
@@ -96,10 +96,10 @@ module _ (file room : List ℕ) where
     rest = stands h .rest;
   }
 
-  demand1 : Demand1 file room (listOf file room .result) (listOf file room .room)
+  demand1 : ListDemand1 file room (listOf file room .result) (listOf file room .room)
   demand1 = go kind
     where
-      go : Kind → Demand1 file room (listOf file room .result) (listOf file room .room)
+      go : Kind → ListDemand1 file room (listOf file room .result) (listOf file room .room)
       go (byFile h) = rw (by-file h) (refusal-file h)
       go (byRoom z h) = rw (by-room z h) (refusal-room z h)
       go (byList z h) = rw (by-list z h) (an-answer z h)
@@ -118,10 +118,10 @@ module _ (file room : List ℕ) where
         demand = demand2 file;
       })
 
-pub returned-one : ReturnedOne
-returned-one file room result after p = subst (λ r. Demand1 file room r after) (sym (p .result-is)) (subst (Demand1 file room (listOf file room .result)) (sym (p .after-is)) (demand1 file room))
+pub returned-one : ListReturnedOne
+returned-one file room result after p = subst (λ r. ListDemand1 file room r after) (sym (p .result-is)) (subst (ListDemand1 file room (listOf file room .result)) (sym (p .after-is)) (demand1 file room))
 
-pub returned-two : ReturnedTwo
+pub returned-two : ListReturnedTwo
 returned-two file room result after p n =
     subst (λ r. Written file r after) (sym (p .result-is)) (subst (Written file (listOf file room .result)) (sym (p .after-is)) (listed file room (ap (λ r. r .number) (sym (p .result-is)) ∙ n)))
 

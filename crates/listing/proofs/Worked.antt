@@ -7,19 +7,19 @@ use lib.Ieee.{add, sub, mul, div, neg, lt, le, eq, ofInt, ofBits}
 use lib.Ieee.Fits.{and-l, and-r}
 use Rattle.floats.specs.Lists.{all}
 use Rattle.floats.proofs.Lists.{all-at, sameList, same-list}
-use Rattle.listing.specs.Listing.{Whole, listOf, outputOf}
+use Rattle.listing.specs.Listing.{ListAndRoom, listOf, outputOf}
 use Rattle.listing.specs.Worked.{Case, Shown, pointsOf, cases}
 
 sameBytes : List ℕ → List ℕ → Bool
 unfolding sameList
 sameBytes = sameList eqb
 
-whole : Case → Whole
+whole : Case → ListAndRoom
 unfolding listOf
 whole c = listOf (c .file) (pointsOf (c .room))
 
 -- a whole answer and what is written, against what is to be shown of a case
-fits : Case → Whole → List ℕ → Bool
+fits : Case → ListAndRoom → List ℕ → Bool
 unfolding sameBytes
 fits c w output =
     eqb (w .result .number) (c .number)

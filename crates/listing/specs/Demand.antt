@@ -8,7 +8,7 @@ use lib.ListN.{length, getD}
 use Rattle.floats.specs.Lists.{count}
 use Rattle.triangles.specs.declared.Decision.the-variants.{Refused, Apart}
 use Rattle.triangles.specs.Decision.{meets, decisionOf}
-use Rattle.centimetres.specs.Centimetres.{valuesOf}
+use Rattle.centimetres.specs.Centimetres.{twelveValues}
 use Rattle.layout.specs.Recordings.{partOf}
 use Rattle.layout.specs.Parts.{countOf, entryAt, triangleFrom}
 use Rattle.layout.specs.Layout.{Layout}
@@ -28,8 +28,8 @@ pub record Leaking (file : List ℕ) (i j : ℕ) : Type 0 where
   pub pair : (a : ℕ) × (b : ℕ) × (a < entryAt file i .count) × (b < entryAt file j .count) × Meet file i j a b
 
 -- table order: of test recordings, and of training recordings within a test recording
-abbrev pub Before : ℕ × ℕ → ℕ × ℕ → Type 0
-Before p q = (p .0 < q .0) ⊎ ((p .0 ≡ q .0) × (p .1 < q .1))
+abbrev pub InTableOrder : ℕ × ℕ → ℕ × ℕ → Type 0
+InTableOrder p q = (p .0 < q .0) ⊎ ((p .0 ≡ q .0) × (p .1 < q .1))
 
 -- every triangle pair of two recordings is decided, once: test triangles in stored order, with each the training triangles in stored order
 pub record AllDecided (file : List ℕ) (i j : ℕ) : Type 0 where
@@ -43,11 +43,11 @@ lineFor file k = getD (leakPairs file) k (0, 0)
 abbrev pub noLeak : Leak
 noLeak = record { test = 0; train = 0; pairs = 0 }
 
-pub record Demand2 (file : List ℕ) : Type 0 where
+pub record ListDemand2 (file : List ℕ) : Type 0 where
   -- a line stands there for two recordings if and only if they leak, and for no other two
   pub exactlyIf : (i j : ℕ) → List·Memᴰ (i, j) (leakPairs file) ↔ Leaking file i j
   -- the lines are in table order; so no two are for the same two recordings
-  pub inOrder : (k l : ℕ) → k < l → l < length (leakPairs file) → Before (lineFor file k) (lineFor file l)
+  pub inOrder : (k l : ℕ) → k < l → l < length (leakPairs file) → InTableOrder (lineFor file k) (lineFor file l)
   pub once : (k l : ℕ) → k < length (leakPairs file) → l < length (leakPairs file) → lineFor file k ≡ lineFor file l → k ≡ l
   -- a line has the ids of its two recordings and N, and N is how many of their triangle pairs meet
   pub asMany : length (leaks file) ≡ length (leakPairs file)
@@ -59,7 +59,7 @@ pub record Demand2 (file : List ℕ) : Type 0 where
   pub noHeldBack : (i j k : ℕ) → List·Memᴰ (i, j) (leakPairs file) → entryAt file k .set ≡ 2 → (i ≡ k → ⊥) × (j ≡ k → ⊥)
 
 abbrev pub DemandTwo : Type 0
-DemandTwo = (file : List ℕ) → Demand2 file
+DemandTwo = (file : List ℕ) → ListDemand2 file
 
 -- of a good file ids stand for recordings, so the same can be said of what is read in the list
 pub record ByIds (file : List ℕ) : Type 0 where
@@ -77,7 +77,7 @@ LinesById = (file : List ℕ) → Layout file → ByIds file
 
 -- what is decided of two triangles of a good file is decided of triangle a of the part of recording i, as U, and of triangle b of that of recording j, as V, each whole number as f64
 abbrev pub DecidedOfParts : Type 0
-DecidedOfParts = (file : List ℕ) → Layout file → (i j a b : ℕ) → i < countOf file → j < countOf file → a < entryAt file i .count → b < entryAt file j .count → decisionAt file (entryAt file i) (entryAt file j) a b ≡ decisionOf (valuesOf (triangleFrom (partOf file i) (24 * a)) (triangleFrom (partOf file j) (24 * b)))
+DecidedOfParts = (file : List ℕ) → Layout file → (i j a b : ℕ) → i < countOf file → j < countOf file → a < entryAt file i .count → b < entryAt file j .count → decisionAt file (entryAt file i) (entryAt file j) a b ≡ decisionOf (twelveValues (triangleFrom (partOf file i) (24 * a)) (triangleFrom (partOf file j) (24 * b)))
 
 -- from an accepted file no triangle pair is refused
 abbrev pub NoneRefused : Type 0

@@ -10,17 +10,17 @@ use Rattle.listing.specs.declared.Listed.{Listed}
 use Rattle.listing.specs.Leaks.{leaks}
 use Rattle.listing.specs.Words.{listText, refusedLine}
 use Rattle.listing.specs.Listing.{listOf, outputOf}
-use Rattle.listing.specs.Demand.{Demand2}
+use Rattle.listing.specs.Demand.{ListDemand2}
 
-pub record Promise (file room : List ℕ) (result : Listed) (after : List ℕ) : Type 0 where
+pub record ListPromise (file room : List ℕ) (result : Listed) (after : List ℕ) : Type 0 where
   pub result-is : result ≡ listOf file room .result
   pub after-is : after ≡ listOf file room .room
 
 -- no second result and no second room meets it
-abbrev pub NoSecondAnswer : Type 0
-NoSecondAnswer = (file room : List ℕ) (r s : Listed) (a b : List ℕ) → Promise file room r a → Promise file room s b → (r ≡ s) × (a ≡ b)
+abbrev pub NoSecondList : Type 0
+NoSecondList = (file room : List ℕ) (r s : Listed) (a b : List ℕ) → ListPromise file room r a → ListPromise file room s b → (r ≡ s) × (a ≡ b)
 
-pub record Demand1 (file room : List ℕ) (result : Listed) (after : List ℕ) : Type 0 where
+pub record ListDemand1 (file room : List ℕ) (result : Listed) (after : List ℕ) : Type 0 where
   -- a refused file answers with its own number and place, whatever the room
   pub fileFirst : (verdict file .number ≡ 0 → ⊥) → (result .number ≡ verdict file .number) × (result .place ≡ verdict file .place)
   -- 7 exactly if the file is good and the room shorter than the whole list; an answer exactly if the file is good and the list fits
@@ -34,18 +34,18 @@ pub record Demand1 (file room : List ℕ) (result : Listed) (after : List ℕ) :
   pub sameLength : length after ≡ length room
   pub rest : drop (result .length) after ≡ drop (result .length) room
 
-abbrev pub ReturnedOne : Type 0
-ReturnedOne = (file room : List ℕ) (result : Listed) (after : List ℕ) → Promise file room result after → Demand1 file room result after
+abbrev pub ListReturnedOne : Type 0
+ListReturnedOne = (file room : List ℕ) (result : Listed) (after : List ℕ) → ListPromise file room result after → ListDemand1 file room result after
 
 -- of an answer: the front of the room is the list, of which all of demand 2 holds
 pub record Written (file : List ℕ) (result : Listed) (after : List ℕ) : Type 0 where
   pub length-is : result .length ≡ length (listText file)
   pub leaks-is : result .leaks ≡ length (leaks file)
   pub text : take (result .length) after ≡ listText file
-  pub demand : Demand2 file
+  pub demand : ListDemand2 file
 
-abbrev pub ReturnedTwo : Type 0
-ReturnedTwo = (file room : List ℕ) (result : Listed) (after : List ℕ) → Promise file room result after → result .number ≡ 0 → Written file result after
+abbrev pub ListReturnedTwo : Type 0
+ListReturnedTwo = (file room : List ℕ) (result : Listed) (after : List ℕ) → ListPromise file room result after → result .number ≡ 0 → Written file result after
 
 -- what the program is promised to write: of a good file the list, of any other the line with its refusal
 pub record Output (file : List ℕ) : Type 0 where

@@ -9,12 +9,12 @@ use lib.ListN.{getD, set}
 use Rattle.floats.specs.Lists.{all, any}
 use Rattle.floats.proofs.Lists.{all-at, same-bool, bools, in-bools}
 use Rattle.lines.specs.Lines.{three, sign, cornerOn}
-use Rattle.order.specs.Order.{Decided, orderAlong}
+use Rattle.order.specs.Order.{Ordering, orderAlong}
 use Rattle.order.proofs.Every.{seven, eight}
 use Rattle.order.proofs.Edge.{sameOrder}
 
 -- the pair test of the two lines through corner k is among those computed
-unfoldable pub asks : Decided → ℕ → Bool
+unfoldable pub asks : Ordering → ℕ → Bool
 unfolding any
 asks d k = any (λ t. eqb (cornerOn (t .0) (t .1)) k) (d .tests)
 

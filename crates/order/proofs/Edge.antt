@@ -13,7 +13,7 @@ use Rattle.floats.specs.Lists.{all, any, count, once}
 use Rattle.floats.proofs.Lists.{all-at, any-member, sameList, same-list, bools, in-bools}
 use Rattle.lines.specs.Lines.{three, sign}
 use Rattle.lines.specs.Crossings.{crosses, admissible}
-use Rattle.order.specs.Order.{Decided, orderAlong, admissibleOrders}
+use Rattle.order.specs.Order.{Ordering, orderAlong, admissibleOrders}
 use Rattle.order.proofs.Every.{seven, eight, in-three}
 
 unfoldable pub sameOrder : List ℕ → List ℕ → Bool
@@ -68,7 +68,7 @@ unfolding all seven
 three-signs p = tt
 
 module _ (t : List Bool) (back : Bool) (p q : List Bool) (mt : List·Memᴰ t eight) (mp : List·Memᴰ p seven) (mq : List·Memᴰ q seven) where
-  abbrev d : Decided
+  abbrev d : Ordering
   d = orderAlong t back (sign p) (sign q)
 
   is-right : T (right t back p q)

@@ -1,12 +1,12 @@
 // The recordings of a footprint file and their parts.
 ghost use mathlib.Core.Path.{_≡_};
 ghost use Prim.Native.Nat.{_+_, _*_};
-ghost use Rattle.layout.specs.Verdict.{said};
-ghost use Rattle.layout.specs.Recordings.{refused as refusedAs};
+ghost use Rattle.layout.specs.Verdict.{numberAt};
+ghost use Rattle.layout.specs.Recordings.{noRecording};
 ghost use Rattle.layout.specs.Promise.{Recorded, Parted};
 
-fn refused(number: u32, place: u32) -> layout::Recording
-    ensures { λ r. ⌜ r ≡ refusedAs (said number place) ⌝ }
+fn no_recording(number: u32, place: u32) -> layout::Recording
+    ensures { λ r. ⌜ r ≡ noRecording (numberAt number place) ⌝ }
 {
     layout::Recording {
         number,
@@ -25,11 +25,11 @@ pub fn recording(file: &[u8], k: usize) -> layout::Recording
 {
     let v = footprint::check(file);
     if v.number != 0 {
-        return refused(v.number, v.place);
+        return no_recording(v.number, v.place);
     }
     let n = file.len();
     if reading::u32_at(file, n - 8) as usize <= k {
-        return refused(10, 0);
+        return no_recording(10, 0);
     }
     let table = reading::u32_at(file, n - 12) as usize;
     let e = reading::entry_at(file, table + 12 * k);

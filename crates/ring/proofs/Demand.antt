@@ -12,10 +12,10 @@ use Rattle.floats.specs.Numbers.{Numbers}
 use Rattle.floats.proofs.Lists.{so, all-at, any-member, or-cases, same-bool}
 use Rattle.lines.specs.Lines.{three, signsAt, start, finish}
 use Rattle.lines.specs.Parameters.{Parameters, signs}
-use Rattle.lines.specs.Round.{Meets}
+use Rattle.lines.specs.Round.{MeetsOnce}
 use Rattle.lines.proofs.Corner.{agrees}
 use Rattle.order.specs.PairTest.{signsOfU, outcomesOn}
-use Rattle.order.specs.Order.{decidedOn, ordersOf, orderAt}
+use Rattle.order.specs.Order.{orderingOn, ordersOf, orderAt}
 use Rattle.order.proofs.Every.{seven, eight, in-seven, in-eight}
 use Rattle.order.proofs.Edge.{order-meets}
 use Rattle.ring.specs.Places.{Place, vertex, corner, crossing, samePlace, fifteen, Side, ofV, lies, sides}
@@ -97,8 +97,8 @@ module _ (p q r : List Bool) (mp : List·Memᴰ p seven) (mq : List·Memᴰ q se
   abbrev o : ℕ → List ℕ
   o = orderAt (ordersOf ss ts)
 
-  meets : Meets u o
-  unfolding ordersOf decidedOn
+  meets : MeetsOnce u o
+  unfolding ordersOf orderingOn
   meets = record {
     edge0 = order-meets (ts 0) (ltb (finish 0) (start 0)) p q (mt 0) mp mq;
     edge1 = order-meets (ts 1) (ltb (finish 1) (start 1)) q r (mt 1) mq mr;

@@ -7,7 +7,7 @@ use lib.Dec.{T, ltb}
 use Rattle.floats.specs.Lists.{all}
 use Rattle.floats.proofs.Lists.{all-at}
 use Rattle.lines.specs.Lines.{sign, start, finish}
-use Rattle.order.specs.Order.{decidedOn, ordersOf, admissibleOrders}
+use Rattle.order.specs.Order.{orderingOn, ordersOf, admissibleOrders}
 use Rattle.order.proofs.Every.{seven, eight}
 use Rattle.order.proofs.Edge.{order-listed}
 
@@ -45,7 +45,7 @@ module _ (f : Test) (passes : T (allWalks f)) (p q r : List Bool) (mp : List·Me
 
   -- the walk that the outcomes ts give
   pub every-walk : (ts : ℕ → List Bool) → ((e : ℕ) → List·Memᴰ (ts e) eight) → T (f (p ∷ q ∷ r ∷ []) (ordersOf (p ∷ q ∷ r ∷ []) ts))
-  unfolding ordersOf decidedOn
+  unfolding ordersOf orderingOn
   every-walk ts mt =
       at-orders _ _ _
       (order-listed (ts 0) (ltb (finish 0) (start 0)) p q (mt 0) mp mq)

@@ -7,7 +7,7 @@ use Prim.Native.Nat.{ℕ, _≤_}
 use lib.ListN.{length}
 use Rattle.floats.specs.Lists.{any, count, once}
 use Rattle.lines.specs.Lines.{three}
-use Rattle.lines.specs.Round.{Meets, Agrees}
+use Rattle.lines.specs.Round.{MeetsOnce, Agrees}
 use Rattle.ring.specs.Places.{Place, samePlace, fifteen, Side, ofV, lies, sides}
 use Rattle.ring.specs.Flags.{neighbour, found}
 use Rattle.ring.specs.Ring.{ring}
@@ -40,7 +40,7 @@ Closed (p ∷ r) = Linked p r p
 
 pub record Sound (u : ℕ → ℕ → Bool) (o : ℕ → List ℕ) : Type 0 where
   -- each edge's order has the lines that it crosses, each once, and no other
-  pub meets : Meets u o
+  pub meets : MeetsOnce u o
   -- each line is crossed by none or two edges of U, each crossing is on the walk, and both lines through a corner of V agree
   pub agrees : Agrees u o
   pub size : NoneOrThreeToSix (length (ring u o))

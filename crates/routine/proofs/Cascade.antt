@@ -12,7 +12,7 @@ use Rattle.floats.specs.Lists.{all}
 use Rattle.floats.specs.Finite.{finite}
 use Rattle.triangles.specs.Refusals.{Row, coordinates, wayToD, dZero, wayToE, eZero, wayToParameter, wayToPairTest, wayToPosition, wayToArea, numberOf, wayOf, rowTest, firstOf, refusalOf}
 use Rattle.triangles.specs.Answers.{refusal, refused}
-use Rattle.triangles.specs.Promise.{Promise}
+use Rattle.triangles.specs.Promise.{PairPromise}
 use Rattle.routine.specs.Code.{frontOf}
 use Rattle.triangles.proofs.Rows.{nonzero, refused-is}
 
@@ -80,5 +80,5 @@ module _ (l room : List Float) where
     back-not-fine h f = by-back h ∙ ap (λ b. cond b 0 4) f
 
   -- ---- the promise of a refusal and of an answer
-  pub keeps-refusal : {k : ℕ} → refusalOf l room ≡ k → (k ≡ 0 → ⊥) → Promise l room (refusal k) room
+  pub keeps-refusal : {k : ℕ} → refusalOf l room ≡ k → (k ≡ 0 → ⊥) → PairPromise l room (refusal k) room
   keeps-refusal {k} h z = let w = refused-is l room (λ e. z (sym h ∙ e)) ∙ ap (λ k. refused k room) h in record { result-is = rw w refl; after-is = rw w refl }

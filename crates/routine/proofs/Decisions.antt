@@ -12,7 +12,7 @@ use Rattle.triangles.specs.declared.Answer.{Answer}
 use Rattle.triangles.specs.declared.Decision.{Decision}
 use Rattle.triangles.specs.declared.Decision.the-variants.{Apart}
 use Rattle.triangles.specs.Answers.{refusal}
-use Rattle.triangles.specs.Promise.{Promise}
+use Rattle.triangles.specs.Promise.{PairPromise}
 use Rattle.triangles.specs.Decision.{enough, decided, decisionOf, Decided}
 use Rattle.triangles.proofs.Decided.{keeps}
 use Rattle.front.specs.Front.{beyondBy}
@@ -23,12 +23,12 @@ use Rattle.routine.proofs.Entry.{beyond-kept}
 use Rattle.routine.proofs.Kept.{settled-keeps}
 use Rattle.routine.proofs.Shapes.{shapes-give}
 
-pub decision-is : (l : List Float) {a : Answer} {after : List Float} {r : Decision} → Promise l enough a after → r ≡ decided a → Decided l r
+pub decision-is : (l : List Float) {a : Answer} {after : List Float} {r : Decision} → PairPromise l enough a after → r ≡ decided a → Decided l r
 unfolding decisionOf
 decision-is l h e = keeps l (e ∙ ap decided (h .result-is))
 
 -- number 0 and no corners
-apart-is : (l : List Float) {after : List Float} → Promise l enough (refusal 0) after → Decided l Apart
+apart-is : (l : List Float) {after : List Float} → PairPromise l enough (refusal 0) after → Decided l Apart
 unfolding decided
 apart-is l h = decision-is l h refl
 

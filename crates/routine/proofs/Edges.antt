@@ -10,13 +10,13 @@ use Rattle.floats.proofs.Lists.{all-append}
 use Rattle.lines.specs.Lines.{three, sign, lowerEnd, higherEnd}
 use Rattle.lines.specs.Parameters.{signs, signsOf}
 use Rattle.order.specs.PairTest.{signsOfU, outcomeOn, outcomesOn}
-use Rattle.order.specs.Order.{Decided, orderAlong, decidedOn, ordersOf}
-use Rattle.edges.specs.Code.{tested, orderBy, beforeIn, decidedFrom, testFine, orderOf}
+use Rattle.order.specs.Order.{Ordering, orderAlong, orderingOn, ordersOf}
+use Rattle.edges.specs.Code.{tested, orderBy, beforeIn, orderingFrom, testFine, orderOf}
 use Rattle.order.proofs.Every.{seven, eight, in-seven, in-eight}
 use Rattle.coded.proofs.Orders.{is-order, back-order, back-tests}
-use Rattle.walk.specs.Code.{befores, ringOf as codeRing, beyondALine}
+use Rattle.walk.specs.Code.{befores, flagsAndRing as codeRing, beyondALine}
 use Rattle.coded.proofs.Rings.{IsRing, is-ring}
-use Rattle.walk.proofs.Beyond.{Nothing, apart-nothing, apart-untested}
+use Rattle.walk.proofs.Beyond.{Nothing, nothing-beyond, untested-beyond}
 use Rattle.triangles.specs.Pair.{paramsOf, vertexSigns, outcomesOf, edgeOrders, testsOn, testsOf, pairDOf}
 use Rattle.triangles.specs.Refusals.{wayToPairTest, testsWay, wayOf}
 use Rattle.triangles.proofs.Told.{told-pair-test}
@@ -38,33 +38,33 @@ module _ (l : List Float) where
   unfolding outcomesOf outcomesOn
   eight-outcomes e = in-eight _ _ _
 
-  abbrev decidedAt : ℕ → Decided
-  decidedAt e = decidedOn (vertexSigns l) (outcomesOf l) e
+  abbrev decidedAt : ℕ → Ordering
+  decidedAt e = orderingOn (vertexSigns l) (outcomesOf l) e
 
-  abbrev from : ℕ → ℕ → Decided
-  from i j = decidedFrom (paramsOf l i) (paramsOf l j)
+  abbrev from : ℕ → ℕ → Ordering
+  from i j = orderingFrom (paramsOf l i) (paramsOf l j)
 
   -- ---- each edge, seen from its lower vertex
   edge0 : decidedAt 0 ≡ from 0 1
-  unfolding decidedOn vertexSigns signsOfU signsOf outcomesOf outcomesOn outcomeOn decidedFrom tested
+  unfolding orderingOn vertexSigns signsOfU signsOf outcomesOf outcomesOn outcomeOn orderingFrom tested
   edge0 = refl
 
   edge1 : decidedAt 1 ≡ from 1 2
-  unfolding decidedOn vertexSigns signsOfU signsOf outcomesOf outcomesOn outcomeOn decidedFrom tested
+  unfolding orderingOn vertexSigns signsOfU signsOf outcomesOf outcomesOn outcomeOn orderingFrom tested
   edge1 = refl
 
-  abbrev back : Decided
+  abbrev back : Ordering
   back = orderAlong (outcomesOf l 2) true (sign (s 2)) (sign (s 0))
 
-  abbrev forth : Decided
+  abbrev forth : Ordering
   forth = orderAlong (outcomesOf l 2) false (sign (s 0)) (sign (s 2))
 
   edge2-back : decidedAt 2 ≡ back
-  unfolding decidedOn vertexSigns signsOfU signsOf
+  unfolding orderingOn vertexSigns signsOfU signsOf
   edge2-back = refl
 
   edge2-forth : forth ≡ from 0 2
-  unfolding signsOf outcomesOf outcomesOn outcomeOn decidedFrom tested
+  unfolding signsOf outcomesOf outcomesOn outcomeOn orderingFrom tested
   edge2-forth = refl
 
   edge2-order : reverse (decidedAt 2 .order) ≡ from 0 2 .order
@@ -128,11 +128,11 @@ module _ (l : List Float) where
   -- ---- beyond a line
   pub beyond-nothing : beyondALine (vertexSigns l) ≡ true → Nothing (vertexSigns l) (edgeOrders l)
   unfolding vertexSigns signsOfU signsOf edgeOrders
-  beyond-nothing h = apart-nothing (s 0) (s 1) (s 2) (seven-signs 0) (seven-signs 1) (seven-signs 2) (outcomesOf l) eight-outcomes h
+  beyond-nothing h = nothing-beyond (s 0) (s 1) (s 2) (seven-signs 0) (seven-signs 1) (seven-signs 2) (outcomesOf l) eight-outcomes h
 
   untested : beyondALine (vertexSigns l) ≡ true → (e : ℕ) → List·Memᴰ e three → decidedAt e .tests ≡ []
   unfolding vertexSigns signsOfU signsOf
-  untested h e m = apart-untested (s 0) (s 1) (s 2) (seven-signs 0) (seven-signs 1) (seven-signs 2) (outcomesOf l) eight-outcomes h e m
+  untested h e m = untested-beyond (s 0) (s 1) (s 2) (seven-signs 0) (seven-signs 1) (seven-signs 2) (outcomesOf l) eight-outcomes h e m
 
   pub beyond-untested : beyondALine (vertexSigns l) ≡ true → testsOf l ≡ []
   unfolding testsOf testsOn

@@ -19,14 +19,14 @@ use Rattle.edges.specs.Code.{tested, orderBy, orderOn}
 use Rattle.ring.specs.Places.{Place, fifteen}
 use Rattle.ring.specs.Demand.{NoneOrThreeToSix}
 use Rattle.walk.specs.declared.Ring.{Ring}
-use Rattle.walk.specs.Code.{codeOf, befores, beyondALine, ringOf as codeRing}
+use Rattle.walk.specs.Code.{codeOf, befores, beyondALine, flagsAndRing as codeRing}
 use Rattle.coded.proofs.Rings.{IsRing}
 use Rattle.triangles.specs.declared.Answer.{Answer}
 use Rattle.triangles.specs.Pair.{dOfV, eOfU, parametersOf, paramsOf, vertexSigns, edgeOrders, ringOf}
 use Rattle.triangles.specs.Positions.{positionOf, ringPositions, valuesOfCorners, areaOf}
 use Rattle.triangles.specs.Refusals.{wayToPairTest, wayToPosition, wayToArea, positionsWay, testsWay, wayOf, refusalOf}
 use Rattle.triangles.specs.Answers.{refusal, answerOf, written, answered}
-use Rattle.triangles.specs.Promise.{Promise}
+use Rattle.triangles.specs.Promise.{PairPromise}
 use Rattle.front.specs.Front.{clearBy, beyondBy}
 use Rattle.routine.specs.Code.{positionAt, frontOf, spotsTo, fineTo, areaBy}
 use Rattle.triangles.proofs.Demand.{sound}
@@ -82,7 +82,7 @@ module _ (l room : List Float) (n : length l ≡ 12) (m : 12 ≤ length room) (f
   beyond-fine : beyondALine (vertexSigns l) ≡ true → backFine l ≡ true
   beyond-fine h = ap₂ _&&_ (untested-fine h) (ap₂ _&&_ (positions-fine h) (area-fine h))
 
-  pub keeps-beyond : beyondALine (vertexSigns l) ≡ true → Promise l room (refusal 0) room
+  pub keeps-beyond : beyondALine (vertexSigns l) ≡ true → PairPromise l room (refusal 0) room
   unfolding answered answerOf written ringPositions valuesOfCorners areaOf
   keeps-beyond h =
       let z = back-fine l room n m front (beyond-fine h) in
@@ -186,7 +186,7 @@ module _ (l room : List Float) (n : length l ≡ 12) (m : 12 ≤ length room) (f
     back h = ap₂ _&&_ tests (sym rows ∙ h)
 
     pub keeps-answer : (ok && finite area) ≡ true →
-        Promise l room (record { number = 0; n = r .n; area = area; «u_in_v» = r .«u_in_v»; «v_in_u» = r .«v_in_u»; neighbour = r .neighbour }) (written (take (2 * r .n) xy) room)
+        PairPromise l room (record { number = 0; n = r .n; area = area; «u_in_v» = r .«u_in_v»; «v_in_u» = r .«v_in_u»; neighbour = r .neighbour }) (written (take (2 * r .n) xy) room)
     unfolding answered answerOf
     keeps-answer h =
         let q = answered-is l room (back-fine l room n m front (back h)) in
@@ -195,7 +195,7 @@ module _ (l room : List Float) (n : length l ≡ 12) (m : 12 ≤ length room) (f
           after-is = rw q (ap (λ v. written v room) values);
         }
 
-    pub keeps-late-refusal : (ok && finite area) ≡ false → Promise l room (refusal 4) room
+    pub keeps-late-refusal : (ok && finite area) ≡ false → PairPromise l room (refusal 4) room
     keeps-late-refusal h = keeps-refusal l room (back-not-fine l room n m front (back h)) (λ e. omega (arith, e))
 
 -- ---- as the code comes to it: parameters, signs and orders under names of its own
@@ -214,14 +214,14 @@ module _ (l room : List Float) (ps : List Params) (ss bs : List (List Bool)) (kn
     fine-is = corners .1 ∙ ap₂ (λ ps ss. fineTo l ps ss (w .places) (w .n)) (named .0) (named .1)
 
     pub answer-kept : {after : List Float} → (ok && is-fine) ≡ true → after ≡ written (take (2 * w .n) xy) room →
-        Promise l room (record { number = 0; n = w .n; area = area; «u_in_v» = w .«u_in_v»; «v_in_u» = w .«v_in_u»; neighbour = w .neighbour }) after
+        PairPromise l room (record { number = 0; n = w .n; area = area; «u_in_v» = w .«u_in_v»; «v_in_u» = w .«v_in_u»; neighbour = w .neighbour }) after
     answer-kept h e =
-        subst (Promise l room _) (sym e)
+        subst (PairPromise l room _) (sym e)
         (keeps-answer l room (known .0) (known .1) (known .2) (known .3) w same-ring xy ok area laid fine-is ha (ap (λ b. ok && b) (sym hf) ∙ h))
 
-    pub late-refusal-kept : {answer : Answer} → (ok && is-fine) ≡ false → answer ≡ refusal 4 → Promise l room answer room
+    pub late-refusal-kept : {answer : Answer} → (ok && is-fine) ≡ false → answer ≡ refusal 4 → PairPromise l room answer room
     late-refusal-kept h e =
-        subst (λ a. Promise l room a room) (sym e)
+        subst (λ a. PairPromise l room a room) (sym e)
         (keeps-late-refusal l room (known .0) (known .1) (known .2) (known .3) w same-ring xy ok area laid fine-is ha (ap (λ b. ok && b) (sym hf) ∙ h))
 
 -- ---- from the parameters on
@@ -257,9 +257,9 @@ module _ (l room : List Float) (p q r : Params) (s t u : List Bool) (known : (le
     pub all-named : (p ∷ q ∷ r ∷ [] ≡ params l) × (s ∷ t ∷ u ∷ [] ≡ vertexSigns l) × (a .before ∷ b .before ∷ c .before ∷ [] ≡ befores (edgeOrders l))
     all-named = (rw (named .0, named .1, named .2) refl, signs-named, rw (a-is, b-is, c-is) (sym (befores-are l)))
 
-    pub tests-refusal-kept : {answer : Answer} → (a .fine && (b .fine && c .fine)) ≡ false → answer ≡ refusal 4 → Promise l room answer room
+    pub tests-refusal-kept : {answer : Answer} → (a .fine && (b .fine && c .fine)) ≡ false → answer ≡ refusal 4 → PairPromise l room answer room
     tests-refusal-kept h e =
-        subst (λ x. Promise l room x room) (sym e)
+        subst (λ x. PairPromise l room x room) (sym e)
         (keeps-refusal l room
         (back-not-fine l room (known .0) (known .1) (known .2) (ap (λ b. b && (all finite (wayOf wayToPosition l) && all finite (wayOf wayToArea l))) (sym all-fine-is ∙ h))) (λ z. omega (arith, z)))
 
@@ -269,7 +269,7 @@ module _ (l : List Float) (d e : Float) (p q r : Params) (n : length l ≡ 12) (
   both true b h = (refl, h)
   both false b h = absurd (false≢true h)
 
-  pub beyond-kept : {b : Bool} (room : List Float) → 12 ≤ length room → b ≡ beyondBy d e p q r → b ≡ true → Promise l room (refusal 0) room
+  pub beyond-kept : {b : Bool} (room : List Float) → 12 ≤ length room → b ≡ beyondBy d e p q r → b ≡ true → PairPromise l room (refusal 0) room
   unfolding beyondBy
   beyond-kept room m hb h =
       let seen = both (clearBy d e p q r) (beyondALine (signsOf p ∷ signsOf q ∷ signsOf r ∷ [])) (sym hb ∙ h) in
@@ -278,10 +278,10 @@ module _ (l : List Float) (d e : Float) (p q r : Params) (n : length l ≡ 12) (
 -- ---- from the lengths on
 module _ (l room : List Float) {k : ℕ} {answer : Answer} (e : answer ≡ refusal k) where
   abbrev Kept : Type 0
-  Kept = Promise l room answer room
+  Kept = PairPromise l room answer room
 
-  pub kept-as : Promise l room (refusal k) room → Kept
-  kept-as h = subst (λ a. Promise l room a room) (sym e) h
+  pub kept-as : PairPromise l room (refusal k) room → Kept
+  kept-as h = subst (λ a. PairPromise l room a room) (sym e) h
 
   kept : refusalOf l room ≡ k → (k ≡ 0 → ⊥) → Kept
   kept h z = kept-as (keeps-refusal l room h z)
@@ -289,7 +289,7 @@ module _ (l room : List Float) {k : ℕ} {answer : Answer} (e : answer ≡ refus
   pub front-kept : length l ≡ 12 → 12 ≤ length room → k ≡ frontOf l → (k ≡ 0 → ⊥) → Kept
   front-kept n m h z = kept (by-front l room n m (λ f. z (h ∙ f)) ∙ sym h) z
 
-pub lengths-kept : (l room : List Float) {answer : Answer} → answer ≡ refusal 1 → (length l ≡ 12 → ⊥) ⊎ (length room < 12) → Promise l room answer room
+pub lengths-kept : (l room : List Float) {answer : Answer} → answer ≡ refusal 1 → (length l ≡ 12 → ⊥) ⊎ (length room < 12) → PairPromise l room answer room
 lengths-kept l room e h = kept l room e (short l room h) (λ z. omega (arith, z))
 
 -- the values of the six positions, d, e and the parameters

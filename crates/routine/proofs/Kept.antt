@@ -15,25 +15,25 @@ use Rattle.lines.specs.declared.Params.{Params}
 use Rattle.lines.specs.Parameters.{signsOf}
 use Rattle.edges.specs.declared.Order.{Order}
 use Rattle.edges.specs.Code.{orderOn}
-use Rattle.walk.specs.declared.Corner.{Corner}
+use Rattle.walk.specs.declared.PlaceCode.{PlaceCode}
 use Rattle.walk.specs.declared.Ring.{Ring}
-use Rattle.walk.specs.Code.{befores, ringOf}
+use Rattle.walk.specs.Code.{befores, flagsAndRing}
 use Rattle.front.specs.Front.{numberBy}
 use Rattle.triangles.specs.Pair.{dOfV, eOfU, paramsOf, vertexSigns, edgeOrders}
 use Rattle.triangles.specs.Refusals.{wayToPairTest, wayOf}
 use Rattle.triangles.specs.declared.Answer.{Answer}
 use Rattle.triangles.specs.Answers.{written}
-use Rattle.triangles.specs.Promise.{Promise}
-use Rattle.routine.specs.Code.{frontOf, spotsTo, fineTo, areaBy, Outcome, Leaves, refusedWith, answeredWith, placedAs, orderedBy, settledBy}
+use Rattle.triangles.specs.Promise.{PairPromise}
+use Rattle.routine.specs.Code.{frontOf, spotsTo, fineTo, areaBy, Outcome, Leaves, outcomeRefused, answeredWith, placedAs, orderedBy, settledBy}
 use Rattle.routine.proofs.Crossings.{params}
 use Rattle.routine.proofs.Front.{number-is}
 use Rattle.routine.proofs.Entry.{answer-kept, late-refusal-kept, tests-known, all-named, tests-refusal-kept, front-kept}
 
 abbrev Keeps : List Float → List Float → Outcome → Type 0
-Keeps l room o = Promise l room (o .answer) (o .room)
+Keeps l room o = PairPromise l room (o .answer) (o .room)
 
 -- ---- from the ring on
-spots-length : (l : List Float) (ps : List Params) (ss : List (List Bool)) (places : List Corner) (n : ℕ) → length (spotsTo l ps ss places n) ≡ 2 * n
+spots-length : (l : List Float) (ps : List Params) (ss : List (List Bool)) (places : List PlaceCode) (n : ℕ) → length (spotsTo l ps ss places n) ≡ 2 * n
 unfolding spotsTo
 spots-length l ps ss places zero = refl
 spots-length l ps ss places (suc n) =
@@ -42,7 +42,7 @@ spots-length l ps ss places (suc n) =
 
 module _ (l room : List Float) (ps : List Params) (ss bs : List (List Bool)) (known : (length l ≡ 12) × (12 ≤ length room) × (frontOf l ≡ 0) × (all finite (wayOf wayToPairTest l) ≡ true)) (named : (ps ≡ params l) × (ss ≡ vertexSigns l) × (bs ≡ befores (edgeOrders l))) where
   abbrev w : Ring
-  w = ringOf ss bs
+  w = flagsAndRing ss bs
 
   abbrev spots : List Float
   spots = spotsTo l ps ss (w .places) (w .n)
@@ -60,7 +60,7 @@ module _ (l room : List Float) (ps : List Params) (ss bs : List (List Bool)) (kn
   unfolding placedAs
   placed-keeps = go (ok && finite area) refl
     where
-      go : (b : Bool) → (ok && finite area) ≡ b → Keeps l room (cond b (answeredWith w area (written spots room)) (refusedWith 4 room))
+      go : (b : Bool) → (ok && finite area) ≡ b → Keeps l room (cond b (answeredWith w area (written spots room)) (outcomeRefused 4 room))
       go true h = answer-kept l room ps ss bs known named w refl spots ok (finite area) area (laid, refl) refl refl h (ap (λ v. written v room) (sym laid))
       go false h = late-refusal-kept l room ps ss bs known named w refl spots ok (finite area) area (laid, refl) refl refl h refl
 
@@ -82,7 +82,7 @@ module _ (l room : List Float) (p q r : Params) (known : (length l ≡ 12) × (1
   unfolding orderedBy
   ordered-keeps = go (on 0 .fine && (on 1 .fine && on 2 .fine)) refl
     where
-      go : (b : Bool) → (on 0 .fine && (on 1 .fine && on 2 .fine)) ≡ b → Keeps l room (cond b (placedAs l room ps ss (ringOf ss bs)) (refusedWith 4 room))
+      go : (b : Bool) → (on 0 .fine && (on 1 .fine && on 2 .fine)) ≡ b → Keeps l room (cond b (placedAs l room ps ss (flagsAndRing ss bs)) (outcomeRefused 4 room))
       go true h = placed-keeps l room ps ss bs (tests-known l room p q r (signsOf p) (signsOf q) (signsOf r) known named refl refl refl (on 0) (on 1) (on 2) refl refl refl h) (all-named l room p q r (signsOf p) (signsOf q) (signsOf r) known named refl refl refl (on 0) (on 1) (on 2) refl refl refl)
       go false h = tests-refusal-kept l room p q r (signsOf p) (signsOf q) (signsOf r) known named refl refl refl (on 0) (on 1) (on 2) refl refl refl h refl
 
@@ -91,10 +91,10 @@ pub settled-keeps : (l room : List Float) (d e : Float) (p q r : Params) → len
 unfolding settledBy
 settled-keeps l room d e p q r n m named = go (eqb (numberBy l d e p q r) 0) refl
   where
-    go : (b : Bool) → eqb (numberBy l d e p q r) 0 ≡ b → Keeps l room (cond b (orderedBy l room (p ∷ q ∷ r ∷ [])) (refusedWith (numberBy l d e p q r) room))
+    go : (b : Bool) → eqb (numberBy l d e p q r) 0 ≡ b → Keeps l room (cond b (orderedBy l room (p ∷ q ∷ r ∷ [])) (outcomeRefused (numberBy l d e p q r) room))
     go true h = ordered-keeps l room p q r (n, m, sym (number-is l d e p q r named n refl) ∙ eqb-true (numberBy l d e p q r) 0 h) (named .2, named .3, named .4)
     go false h = front-kept l room refl n m (number-is l d e p q r named n refl) (eqb-false (numberBy l d e p q r) 0 h)
 
 -- what leaves such an outcome keeps the promise
-pub leaves-kept : (l room : List Float) {o : Outcome} {answer : Answer} {after : List Float} → Leaves o answer after → Keeps l room o → Promise l room answer after
+pub leaves-kept : (l room : List Float) {o : Outcome} {answer : Answer} {after : List Float} → Leaves o answer after → Keeps l room o → PairPromise l room answer after
 leaves-kept l room h k = record { result-is = h .result-is ∙ k .result-is; after-is = h .after-is ∙ k .after-is }

@@ -16,8 +16,8 @@ use Rattle.floats.specs.Way.{Way, negated, f64, givenPoint, at}
 use Rattle.floats.proofs.Lists.{all-append}
 use Rattle.floats.proofs.Told.{FinitePoint, add-operands, mul-operands, turned-operand, crossFrom-operands}
 use Rattle.ring.specs.Places.{Place, vertex, fifteen}
-use Rattle.walk.specs.declared.Corner.{Corner}
-use Rattle.walk.specs.Code.{codeOf, placeOf, coded}
+use Rattle.walk.specs.declared.PlaceCode.{PlaceCode}
+use Rattle.walk.specs.Code.{codeOf, placeOfCode, coded}
 use Rattle.walk.proofs.Beyond.{decoded}
 use Rattle.triangles.specs.Pair.{vertexSigns}
 use Rattle.triangles.specs.Positions.{positionOf, valuesOfCorners, cornerAt, sumTo, half, areaOf}
@@ -50,13 +50,13 @@ map-append f [] ys = refl
 map-append f (x ∷ xs) ys = ap (f x ∷_) (map-append f xs ys)
 
 -- ---- the ring's places ps, of which the code has the numbers
-module _ (l : List Float) (ps : List Place) (within : (p : Place) → List·Memᴰ p ps → List·Memᴰ p fifteen) (places : List Corner) (codes : take (length ps) (map (λ c. c .code) places) ≡ map codeOf ps) (enough : length ps ≤ length places) where
+module _ (l : List Float) (ps : List Place) (within : (p : Place) → List·Memᴰ p ps → List·Memᴰ p fifteen) (places : List PlaceCode) (codes : take (length ps) (map (λ c. c .code) places) ≡ map codeOf ps) (enough : length ps ≤ length places) where
   abbrev ss : List (List Bool)
   ss = vertexSigns l
 
-  place-at : (k : ℕ) → k < length ps → placeOf (getD places k (coded 0) .code) ≡ getD ps k (vertex 0)
+  place-at : (k : ℕ) → k < length ps → placeOfCode (getD places k (coded 0) .code) ≡ getD ps k (vertex 0)
   place-at k h =
-      ap placeOf (sym (getD-map (λ c. c .code) places k (coded 0) 0 (omega (arith, h, enough)))
+      ap placeOfCode (sym (getD-map (λ c. c .code) places k (coded 0) 0 (omega (arith, h, enough)))
       ∙ (sym (getD-take (length ps) (map (λ c. c .code) places) k 0 h) ∙ (ap (λ cs. getD cs k 0) codes ∙ getD-map codeOf ps k (vertex 0) 0 h)))
       ∙ decoded (getD ps k (vertex 0)) (within _ (member-at ps k (vertex 0) h))
 

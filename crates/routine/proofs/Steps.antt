@@ -19,12 +19,12 @@ use Rattle.lines.specs.Parameters.{signsOf}
 use Rattle.edges.specs.declared.Order.{Order}
 use Rattle.edges.specs.Code.{paramsAt, ordersOn}
 use Rattle.walk.specs.declared.Ring.{Ring}
-use Rattle.walk.specs.Code.{ringOf}
+use Rattle.walk.specs.Code.{flagsAndRing}
 use Rattle.walk.proofs.Most.{six-at-most}
 use Rattle.triangles.specs.declared.Answer.{Answer}
 use Rattle.triangles.specs.Answers.{refusal, written}
 use Rattle.front.specs.Front.{numberBy}
-use Rattle.routine.specs.Code.{positionAt, spotsTo, fineTo, sumBy, areaBy, Outcome, Leaves, refusedWith, answeredWith, placedAs, orderedBy, settledBy}
+use Rattle.routine.specs.Code.{positionAt, spotsTo, fineTo, sumBy, areaBy, Outcome, Leaves, outcomeRefused, answeredWith, placedAs, orderedBy, settledBy}
 
 -- ---- the area of n corners looks at their values only
 cross-of : {a b c x y z : Position} → a ≡ x → b ≡ y → c ≡ z → crossFrom f64 (at a) (at b) (at c) .value ≡ crossFrom f64 (at x) (at y) (at z) .value
@@ -47,11 +47,11 @@ module _ (xy : List Float) (n : ℕ) where
   same-area = rw (same-sum (n - 2) (omega arith)) refl
 
 -- a ring of the code fits in six corners
-pub ring-fits : (ss bs : List (List Bool)) {w : Ring} → w ≡ ringOf ss bs → w .n ≤ 6
+pub ring-fits : (ss bs : List (List Bool)) {w : Ring} → w ≡ flagsAndRing ss bs → w .n ≤ 6
 ring-fits ss bs h = subst (λ v. v .n ≤ 6) (sym h) (six-at-most ss bs)
 
 -- a refusal leaves the room as it was
-pub refusal-leaves : {o : Outcome} {answer : Answer} (k : ℕ) (room : List Float) → o ≡ refusedWith k room → answer ≡ refusal k → Leaves o answer room
+pub refusal-leaves : {o : Outcome} {answer : Answer} (k : ℕ) (room : List Float) → o ≡ outcomeRefused k room → answer ≡ refusal k → Leaves o answer room
 refusal-leaves k room h e = record { result-is = e ∙ ap (λ o. o .answer) (sym h); after-is = ap (λ o. o .room) (sym h) }
 
 -- ---- from the ring on
@@ -69,7 +69,7 @@ module _ (l room : List Float) (ps : List Params) (ss : List (List Bool)) (w : R
   answer-leaves {after} hw h e = subst (λ v. Leaves (placedAs l room ps ss v) (answeredWith w area after .answer) after) hw here
     where
       is : answeredWith w (areaBy spots (w .n)) (written spots room) ≡ placedAs l room ps ss w
-      is = (unfold placedAs in taken (refusedWith 4 room) (test-is h) refl)
+      is = (unfold placedAs in taken (outcomeRefused 4 room) (test-is h) refl)
 
       here : Leaves (placedAs l room ps ss w) (answeredWith w area after .answer) after
       here = record {
@@ -89,9 +89,9 @@ module _ (l room : List Float) (ps : List Params) (s t u : List Bool) (hs : s �
   fine = on 0 .fine && (on 1 .fine && on 2 .fine)
 
   abbrev placed : Outcome
-  placed = placedAs l room ps (s ∷ t ∷ u ∷ []) (ringOf (s ∷ t ∷ u ∷ []) (on 0 .before ∷ on 1 .before ∷ on 2 .before ∷ []))
+  placed = placedAs l room ps (s ∷ t ∷ u ∷ []) (flagsAndRing (s ∷ t ∷ u ∷ []) (on 0 .before ∷ on 1 .before ∷ on 2 .before ∷ []))
 
-  ordered : {b : Bool} → fine ≡ b → orderedBy l room ps ≡ cond b placed (refusedWith 4 room)
+  ordered : {b : Bool} → fine ≡ b → orderedBy l room ps ≡ cond b placed (outcomeRefused 4 room)
   unfolding orderedBy
   ordered h = rw (sym h, ho, hs, ht, hu) refl
 
@@ -103,7 +103,7 @@ module _ (l room : List Float) (ps : List Params) (s t u : List Bool) (hs : s �
 
 -- ---- from d, e and the parameters on
 module _ (l room : List Float) (d e : Float) (ps : List Params) (k : ℕ) (hk : k ≡ numberBy l d e (paramsAt ps 0) (paramsAt ps 1) (paramsAt ps 2)) where
-  settled : {b : Bool} → eqb k 0 ≡ b → settledBy l room d e ps ≡ cond b (orderedBy l room ps) (refusedWith k room)
+  settled : {b : Bool} → eqb k 0 ≡ b → settledBy l room d e ps ≡ cond b (orderedBy l room ps) (outcomeRefused k room)
   unfolding settledBy
   settled h = rw (sym h, hk) refl
 

@@ -15,9 +15,9 @@ use Rattle.lines.specs.declared.Params.{Params}
 use Rattle.lines.specs.Parameters.{parameter, carried, paramsBy, signsOf}
 use Rattle.ring.specs.Places.{Place, vertex, corner, crossing}
 use Rattle.edges.specs.Code.{paramsAt, orderOn}
-use Rattle.walk.specs.declared.Corner.{Corner}
+use Rattle.walk.specs.declared.PlaceCode.{PlaceCode}
 use Rattle.walk.specs.declared.Ring.{Ring}
-use Rattle.walk.specs.Code.{coded, placeOf, ringOf}
+use Rattle.walk.specs.Code.{coded, placeOfCode, flagsAndRing}
 use Rattle.crossings.specs.declared.Spot.{Spot}
 use Rattle.crossings.specs.Crossing.{spotOn}
 use Rattle.triangles.specs.Positions.{half}
@@ -54,8 +54,8 @@ spotOf l ps ss (corner k) = copied (positionAt l (3 + k))
 spotOf l ps ss (crossing e a) = cond (signsAt ss (start e) a) (crossSpot l ps a (start e) (finish e)) (crossSpot l ps a (finish e) (start e))
 
 -- the spot of the ring's place i
-abbrev pub spotAt : List Float → List Params → List (List Bool) → List Corner → ℕ → Spot
-spotAt l ps ss places i = spotOf l ps ss (placeOf (getD places i (coded 0) .code))
+abbrev pub spotAt : List Float → List Params → List (List Bool) → List PlaceCode → ℕ → Spot
+spotAt l ps ss places i = spotOf l ps ss (placeOfCode (getD places i (coded 0) .code))
 
 -- the edge and the line of the crossing with a number, and 0 of a number below 6
 abbrev pub edgeIn : ℕ → ℕ
@@ -69,11 +69,11 @@ unfoldable pub spotFrom : List Float → List Params → ℕ → ℕ → ℕ →
 spotFrom l ps code a i j plus = cond (ltb code 6) (copied (positionAt l code)) (cond plus (crossSpot l ps a i j) (crossSpot l ps a j i))
 
 -- the values of the first n spots, and whether all of them are fine
-unfoldable pub spotsTo : List Float → List Params → List (List Bool) → List Corner → ℕ → List Float
+unfoldable pub spotsTo : List Float → List Params → List (List Bool) → List PlaceCode → ℕ → List Float
 spotsTo l ps ss places zero = []
 spotsTo l ps ss places (suc n) = let s = spotAt l ps ss places n in spotsTo l ps ss places n ++ (s .x ∷ s .y ∷ [])
 
-unfoldable pub fineTo : List Float → List Params → List (List Bool) → List Corner → ℕ → Bool
+unfoldable pub fineTo : List Float → List Params → List (List Bool) → List PlaceCode → ℕ → Bool
 fineTo l ps ss places zero = true
 fineTo l ps ss places (suc n) = fineTo l ps ss places n && spotAt l ps ss places n .fine
 
@@ -96,8 +96,8 @@ pub record Leaves (o : Outcome) (result : Answer) (after : List Float) : Type 0 
   pub result-is : result ≡ o .answer
   pub after-is : after ≡ o .room
 
-abbrev pub refusedWith : ℕ → List Float → Outcome
-refusedWith k room = record { answer = refusal k; room = room }
+abbrev pub outcomeRefused : ℕ → List Float → Outcome
+outcomeRefused k room = record { answer = refusal k; room = room }
 
 abbrev pub answeredWith : Ring → Float → List Float → Outcome
 answeredWith w area room = record {
@@ -110,7 +110,7 @@ unfoldable pub placedAs : List Float → List Float → List Params → List (Li
 placedAs l room ps ss w =
     let spots = spotsTo l ps ss (w .places) (w .n) in
     let area = areaBy spots (w .n) in
-    cond (fineTo l ps ss (w .places) (w .n) && finite area) (answeredWith w area (written spots room)) (refusedWith 4 room)
+    cond (fineTo l ps ss (w .places) (w .n) && finite area) (answeredWith w area (written spots room)) (outcomeRefused 4 room)
 
 -- from the parameters on: the orders along U's edges, refused where a pair test that was computed is not finite
 unfoldable pub orderedBy : List Float → List Float → List Params → Outcome
@@ -119,11 +119,11 @@ orderedBy l room ps =
     let a = orderOn ps ss 0 in
     let b = orderOn ps ss 1 in
     let c = orderOn ps ss 2 in
-    cond (a .fine && (b .fine && c .fine)) (placedAs l room ps ss (ringOf ss (a .before ∷ b .before ∷ c .before ∷ []))) (refusedWith 4 room)
+    cond (a .fine && (b .fine && c .fine)) (placedAs l room ps ss (flagsAndRing ss (a .before ∷ b .before ∷ c .before ∷ []))) (outcomeRefused 4 room)
 
 -- from d, e and the parameters on: the rows before the pair tests first
 unfoldable pub settledBy : List Float → List Float → Float → Float → List Params → Outcome
-settledBy l room d e ps = let k = numberBy l d e (paramsAt ps 0) (paramsAt ps 1) (paramsAt ps 2) in cond (eqb k 0) (orderedBy l room ps) (refusedWith k room)
+settledBy l room d e ps = let k = numberBy l d e (paramsAt ps 0) (paramsAt ps 1) (paramsAt ps 2) in cond (eqb k 0) (orderedBy l room ps) (outcomeRefused k room)
 
 -- ---- of two triangles made ready, whatever their eleven numbers are: the sides and the crosses are taken as they stand
 unfoldable pub decisionBy : Shape → Shape → Decision

@@ -4,9 +4,9 @@ mod spots;
 ghost use mathlib.Core.Path.{_≡_};
 ghost use Prim.Native.Nat.{_*_, _≤_};
 ghost use lib.ListN.{length, take};
-ghost use Rattle.walk.specs.Code.{ringOf};
+ghost use Rattle.walk.specs.Code.{flagsAndRing};
 ghost use Rattle.triangles.specs.Answers.{refusal, written};
-ghost use Rattle.triangles.specs.Promise.{Promise};
+ghost use Rattle.triangles.specs.Promise.{PairPromise};
 ghost use Rattle.triangles.specs.Decision.{Decided};
 ghost use Rattle.routine.specs.Code.{Leaves, placedAs, orderedBy, settledBy, decisionBy};
 use spots::area_of;
@@ -49,9 +49,9 @@ fn placed(
     before: [[bool; 3]; 3],
 ) -> triangles::Answer
     requires { ⌜ (length (now values) ≡ 12) × (12 ≤ length (now room)) ⌝ }
-    ensures { λ r. ⌜ Leaves (placedAs (now (values .entry)) (now (room .entry)) params signs (ringOf signs before)) r (now (room .exit)) ⌝ }
+    ensures { λ r. ⌜ Leaves (placedAs (now (values .entry)) (now (room .entry)) params signs (flagsAndRing signs before)) r (now (room .exit)) ⌝ }
 {
-    let w = walk::ring_of(signs, before);
+    let w = walk::flags_and_ring(signs, before);
     let places = w.places;
     let n = w.n;
     let c = corners_of(values, params, signs, places, n);
@@ -116,7 +116,7 @@ fn settled(
 
 // Two triangles, U0x, U0y, .. V2y: the answer, with the ring's corners at the front of the room, or a refusal, with the room as it was.
 pub fn intersect(values: &[f64], room: &mut [f64]) -> triangles::Answer
-    ensures { λ r. ⌜ Promise (now (values .entry)) (now (room .entry)) r (now (room .exit)) ⌝ }
+    ensures { λ r. ⌜ PairPromise (now (values .entry)) (now (room .entry)) r (now (room .exit)) ⌝ }
 {
     if values.len() != 12 {
         return refused(1);

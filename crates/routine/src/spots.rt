@@ -43,7 +43,7 @@ fn cross_spot(
 }
 
 // The edge of a crossing, by its place's number; 0 of any other place.
-fn edge_in(place: walk::Corner) -> usize
+fn edge_in(place: walk::PlaceCode) -> usize
     ensures { λ r. ⌜ r ≡ edgeIn (place .code) ⌝ }
 {
     let code = place.code as usize;
@@ -54,7 +54,7 @@ fn edge_in(place: walk::Corner) -> usize
 }
 
 // Its line, likewise.
-fn line_in(place: walk::Corner) -> usize
+fn line_in(place: walk::PlaceCode) -> usize
     ensures { λ r. ⌜ (r ≡ lineIn (place .code)) × (r < 3) ⌝ }
 {
     let code = place.code as usize;
@@ -68,7 +68,7 @@ fn line_in(place: walk::Corner) -> usize
 fn spot_of(
     values: &[f64],
     params: [lines::Params; 3],
-    place: walk::Corner,
+    place: walk::PlaceCode,
     a: usize,
     i: usize,
     j: usize,
@@ -97,7 +97,7 @@ pub(crate) fn corners_of(
     values: &[f64],
     params: [lines::Params; 3],
     signs: [[bool; 3]; 3],
-    places: [walk::Corner; 6],
+    places: [walk::PlaceCode; 6],
     n: usize,
 ) -> Corners
     requires { ⌜ (length (now values) ≡ 12) × (n ≤ 6) ⌝ }

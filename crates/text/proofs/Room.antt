@@ -11,8 +11,8 @@ use lib.ListN.{length, getD, take, drop, set, length-append, List·getD-append}
 use lib.Seq.{sets, sets-eq, length-sets, length-take-le, take-append-seam, take-at, drop-at, getD-take, getD-append-add}
 use Rattle.text.specs.Room.{Measured, laid, behind, Put, WholeOrNothing, NoSecondPut, PutsWhole}
 
-pub unique : NoSecondPut
-unique A room at text a b m n p q = (p .after-is ∙ sym (q .after-is), p .next-is ∙ sym (q .next-is))
+pub no-second-put : NoSecondPut
+no-second-put A room at text a b m n p q = (p .after-is ∙ sym (q .after-is), p .next-is ∙ sym (q .next-is))
 
 module _ {A : Type 0} (room text : List A) (at : ℕ) where
   -- ---- a text that fits: a run of stores, and the place behind it

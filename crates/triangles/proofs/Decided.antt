@@ -19,8 +19,8 @@ use Rattle.triangles.specs.Answers.{refusal, answerOf, answered, wholeOf
 use Rattle.triangles.specs.Decision.{Decided, NoSecondDecision, said, saidOf, enough, answerTo, decided, decisionOf, meets, MeetsExactlyIf, AnyRoom}
 use Rattle.triangles.proofs.Rows.{answered-is, refused-is}
 
-pub unique : NoSecondDecision
-unique values r s p q = p .result-is ∙ sym (q .result-is)
+pub no-second-decision : NoSecondDecision
+no-second-decision values r s p q = p .result-is ∙ sym (q .result-is)
 
 -- without a ring the area is 0.0
 no-ring : (l : List Float) (r : List Place) → length r ≡ 0 → areaOf (map (positionOf l) r) .value ≡ nought

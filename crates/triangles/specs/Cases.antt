@@ -12,8 +12,8 @@ use Rattle.triangles.specs.Positions.{half}
 use Rattle.triangles.specs.Answers.{wholeOf, noFlags}
 
 -- a whole number as f64: `pos k` is k, `negsuc k` is −(k + 1)
-abbrev pub whole : ℤ → Float
-whole = ofInt binary64
+abbrev pub floatOf : ℤ → Float
+floatOf = ofInt binary64
 
 -- values by their bit patterns
 abbrev pub bits : List ℕ → List Float
@@ -35,14 +35,14 @@ pub record Case : Type 0 where
   pub tests : ℕ
 
 abbrev triangle : ℤ → ℤ → ℤ → ℤ → ℤ → ℤ → List Float
-triangle a b c d e f = map whole (a ∷ b ∷ c ∷ d ∷ e ∷ f ∷ [])
+triangle a b c d e f = map floatOf (a ∷ b ∷ c ∷ d ∷ e ∷ f ∷ [])
 
 abbrev pub flags : Bool → Bool → Bool → List Bool
 flags a b c = a ∷ b ∷ c ∷ []
 
 -- a refused case: its number, and zeros
 abbrev pub refusedWith : ℕ → List Float → Case
-refusedWith k l = record { values = l; number = k; n = 0; corners = []; area = whole (pos 0); inV = noFlags; inU = noFlags; neighbour = noFlags; tests = 0 }
+refusedWith k l = record { values = l; number = k; n = 0; corners = []; area = floatOf (pos 0); inV = noFlags; inU = noFlags; neighbour = noFlags; tests = 0 }
 
 -- V unless given, U of A, and a triangle on one line
 abbrev standardV : List Float
@@ -90,8 +90,8 @@ caseC = record {
   values = triangle (pos 6) (pos 6) (negsuc 1) (pos 6) (pos 6) (negsuc 1) ++ large;
   number = 0;
   n = 6;
-  corners = map whole (pos 2 ∷ pos 6 ∷ pos 0 ∷ pos 6 ∷ pos 0 ∷ pos 4 ∷ pos 4 ∷ pos 0 ∷ pos 6 ∷ pos 0 ∷ pos 6 ∷ pos 2 ∷ []);
-  area = whole (pos 20);
+  corners = map floatOf (pos 2 ∷ pos 6 ∷ pos 0 ∷ pos 6 ∷ pos 0 ∷ pos 4 ∷ pos 4 ∷ pos 0 ∷ pos 6 ∷ pos 0 ∷ pos 6 ∷ pos 2 ∷ []);
+  area = floatOf (pos 20);
   inV = noFlags;
   inU = noFlags;
   neighbour = flags true true true;
@@ -103,8 +103,8 @@ caseD = record {
   values = triangle (pos 1) (pos 1) (negsuc 2) (pos 1) (pos 1) (negsuc 2) ++ standardV;
   number = 0;
   n = 4;
-  corners = map whole (pos 1 ∷ pos 1 ∷ pos 0 ∷ pos 1 ∷ pos 0 ∷ pos 0 ∷ pos 1 ∷ pos 0 ∷ []);
-  area = whole (pos 1);
+  corners = map floatOf (pos 1 ∷ pos 1 ∷ pos 0 ∷ pos 1 ∷ pos 0 ∷ pos 0 ∷ pos 1 ∷ pos 0 ∷ []);
+  area = floatOf (pos 1);
   inV = flags true false false;
   inU = flags true false false;
   neighbour = flags true true false;
@@ -117,7 +117,7 @@ caseE = record {
   number = 0;
   n = 0;
   corners = [];
-  area = whole (pos 0);
+  area = floatOf (pos 0);
   inV = noFlags;
   inU = noFlags;
   neighbour = noFlags;
@@ -129,8 +129,8 @@ caseF = record {
   values = triangle (pos 0) (pos 0) (pos 4) (pos 0) (pos 0) (negsuc 3) ++ standardV;
   number = 0;
   n = 4;
-  corners = map whole (pos 0 ∷ pos 0 ∷ pos 4 ∷ pos 0 ∷ pos 4 ∷ pos 0 ∷ pos 0 ∷ pos 0 ∷ []);
-  area = whole (pos 0);
+  corners = map floatOf (pos 0 ∷ pos 0 ∷ pos 4 ∷ pos 0 ∷ pos 4 ∷ pos 0 ∷ pos 0 ∷ pos 0 ∷ []);
+  area = floatOf (pos 0);
   inV = flags true true false;
   inU = noFlags;
   neighbour = flags false true false;
@@ -142,8 +142,8 @@ caseG = record {
   values = triangle (negsuc 2) (pos 5) (pos 5) (negsuc 2) (pos 9) (pos 9) ++ standardV;
   number = 0;
   n = 4;
-  corners = map whole (pos 0 ∷ pos 2 ∷ pos 2 ∷ pos 0 ∷ pos 4 ∷ pos 0 ∷ pos 0 ∷ pos 4 ∷ []);
-  area = whole (pos 6);
+  corners = map floatOf (pos 0 ∷ pos 2 ∷ pos 2 ∷ pos 0 ∷ pos 4 ∷ pos 0 ∷ pos 0 ∷ pos 4 ∷ []);
+  area = floatOf (pos 6);
   inV = noFlags;
   inU = flags false true true;
   neighbour = flags true true true;
@@ -172,7 +172,7 @@ cases =
 
 -- the room that is lent: more than enough, and told from any corner
 abbrev pub lent : List Float
-lent = replicate 14 (whole (pos 77))
+lent = replicate 14 (floatOf (pos 77))
 
 -- number, n, corners and area bit for bit, all nine flags, and how many pair tests are computed; the room beyond the corners is as before
 pub record Shown (c : Case) : Type 0 where

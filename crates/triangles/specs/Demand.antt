@@ -8,7 +8,7 @@ use lib.ListN.{getD, length, take}
 use lib.Ieee.{Float}
 use Rattle.floats.specs.Lists.{any}
 use Rattle.lines.specs.Lines.{three, lowerLine, upperLine}
-use Rattle.lines.specs.Round.{hits, cornerBy, edgesAcross, Meets}
+use Rattle.lines.specs.Round.{hits, cornerBy, edgesAcross, MeetsOnce}
 use Rattle.ring.specs.Places.{Place, vertex, corner, crossing, ofV, lies}
 use Rattle.ring.specs.Flags.{crossingOn}
 use Rattle.ring.specs.Demand.{NoneOrThreeToSix, Holds, Closed}
@@ -24,9 +24,9 @@ foundIn l a (corner k) = getD (a .«v_in_u») k false
 foundIn l a (crossing e b) = crossingOn (signsBy l) (ordersBy l) e b
 
 -- of the ring's places, an answer and the room afterwards
-pub record Demand3 (l : List Float) (places : List Place) (answer : Answer) (after : List Float) : Type 0 where
+pub record PairDemand3 (l : List Float) (places : List Place) (answer : Answer) (after : List Float) : Type 0 where
   -- an edge of U crosses a line exactly if its ends have different signs there: its order has that line once, and no line else
-  pub meets : Meets (signsBy l) (ordersBy l)
+  pub meets : MeetsOnce (signsBy l) (ordersBy l)
   -- each line of V is crossed by none or two edges of U, and each of these crossings is on the walk
   pub noneOrTwo : (a : ℕ) → (edgesAcross (signsBy l) a ≡ 0) ⊎ (edgesAcross (signsBy l) a ≡ 2)
   pub allFound : (a : ℕ) → length (hits (signsBy l) (ordersBy l) a) ≡ edgesAcross (signsBy l) a
@@ -47,4 +47,4 @@ pub record Demand3 (l : List Float) (places : List Place) (answer : Answer) (aft
 
 -- for every list of values and every room, unless refused
 abbrev pub DemandThree : Type 0
-DemandThree = (l room : List Float) → (let w = wholeOf l room in w .answer .number ≡ 0 → Demand3 l (w .ring) (w .answer) (w .room))
+DemandThree = (l room : List Float) → (let w = wholeOf l room in w .answer .number ≡ 0 → PairDemand3 l (w .ring) (w .answer) (w .room))

@@ -11,7 +11,7 @@ use Rattle.lines.specs.Lines.{signsAt}
 use Rattle.lines.specs.declared.Params.{Params}
 use Rattle.lines.specs.Parameters.{Parameters, dOf, eOf, parametersBy, carried, valuesOf}
 use Rattle.order.specs.PairTest.{signsOfU, pairDOn, outcomesOn}
-use Rattle.order.specs.Order.{decidedOn, ordersOf, orderAt}
+use Rattle.order.specs.Order.{orderingOn, ordersOf, orderAt}
 use Rattle.ring.specs.Places.{Place}
 use Rattle.ring.specs.Ring.{ring}
 
@@ -72,8 +72,8 @@ module _ (l : List Float) where
 
   -- the pair tests computed on edge e, each with its edge
   unfoldable pub testsOn : ℕ → List (ℕ × (ℕ × ℕ))
-  unfolding vertexSigns outcomesOf decidedOn
-  testsOn e = map (λ t. (e, t)) (decidedOn vertexSigns outcomesOf e .tests)
+  unfolding vertexSigns outcomesOf orderingOn
+  testsOn e = map (λ t. (e, t)) (orderingOn vertexSigns outcomesOf e .tests)
 
   -- all pair tests computed: edges 0, 1, 2 in turn
   unfoldable pub testsOf : List (ℕ × (ℕ × ℕ))

@@ -11,13 +11,13 @@ use Rattle.triangles.specs.declared.Answer.{Answer}
 use Rattle.triangles.specs.Answers.{wholeOf}
 
 -- of the values and the room lent, the result and the room afterwards
-pub record Promise (values room : List Float) (result : Answer) (after : List Float) : Type 0 where
+pub record PairPromise (values room : List Float) (result : Answer) (after : List Float) : Type 0 where
   pub result-is : result ≡ wholeOf values room .answer
   pub after-is : after ≡ wholeOf values room .room
 
 -- no second result and no second room meets it
-abbrev pub NoSecondAnswer : Type 0
-NoSecondAnswer = (values room : List Float) (r s : Answer) (a b : List Float) → Promise values room r a → Promise values room s b → (r ≡ s) × (a ≡ b)
+abbrev pub NoSecondPair : Type 0
+NoSecondPair = (values room : List Float) (r s : Answer) (a b : List Float) → PairPromise values room r a → PairPromise values room s b → (r ≡ s) × (a ≡ b)
 
 -- of any input, refused or not: the room keeps its length, and its values beyond the first 2n are as they were lent
 pub record RestKept (values room : List Float) : Type 0 where

@@ -11,10 +11,10 @@ use Rattle.floats.specs.Finite.{finite}
 use Rattle.triangles.specs.declared.Answer.{Answer}
 use Rattle.triangles.specs.Answers.{wholeOf}
 use Rattle.triangles.specs.Rows.{RefusedBy, NoRow, Untouched}
-use Rattle.triangles.specs.Promise.{Promise}
-use Rattle.triangles.specs.Demand.{Demand3}
+use Rattle.triangles.specs.Promise.{PairPromise}
+use Rattle.triangles.specs.Demand.{PairDemand3}
 
-pub record Demand1 (values room : List Float) (result : Answer) (after : List Float) : Type 0 where
+pub record PairDemand1 (values room : List Float) (result : Answer) (after : List Float) : Type 0 where
   -- refused with the number k exactly if a row with that number is the first that applies, and answered exactly if no row does
   pub refusedBy : (k : ℕ) → (k ≡ 0 → ⊥) → (result .number ≡ k) ↔ RefusedBy k values room
   pub answered : (result .number ≡ 0) ↔ NoRow values room
@@ -27,8 +27,8 @@ pub record Demand1 (values room : List Float) (result : Answer) (after : List Fl
   pub corners : result .number ≡ 0 → all finite (take (2 * result .n) after) ≡ true
   pub area : result .number ≡ 0 → finite (result .area) ≡ true
 
-abbrev pub ReturnedOne : Type 0
-ReturnedOne = (values room : List Float) (result : Answer) (after : List Float) → Promise values room result after → Demand1 values room result after
+abbrev pub PairReturnedOne : Type 0
+PairReturnedOne = (values room : List Float) (result : Answer) (after : List Float) → PairPromise values room result after → PairDemand1 values room result after
 
-abbrev pub ReturnedThree : Type 0
-ReturnedThree = (values room : List Float) (result : Answer) (after : List Float) → Promise values room result after → result .number ≡ 0 → Demand3 values (wholeOf values room .ring) result after
+abbrev pub PairReturnedThree : Type 0
+PairReturnedThree = (values room : List Float) (result : Answer) (after : List Float) → PairPromise values room result after → result .number ≡ 0 → PairDemand3 values (wholeOf values room .ring) result after

@@ -11,12 +11,12 @@ use lib.ListN.{length}
 use Rattle.floats.specs.Lists.{all}
 use Rattle.floats.proofs.Lists.{all-at, same-bool, sameList, same-list}
 use Rattle.lines.specs.Lines.{three, signsAt}
-use Rattle.order.specs.Order.{decidedOn, ordersOf, orderAt}
+use Rattle.order.specs.Order.{orderingOn, ordersOf, orderAt}
 use Rattle.order.proofs.Every.{seven, eight}
 use Rattle.ring.specs.Places.{Place, samePlace, fifteen}
 use Rattle.ring.specs.Flags.{verticesIn, cornersIn, neighbours}
 use Rattle.ring.specs.Ring.{ring}
-use Rattle.walk.specs.Code.{codeOf, placeOf, beyondALine}
+use Rattle.walk.specs.Code.{codeOf, placeOfCode, beyondALine}
 use Rattle.ring.proofs.Walks.{allWalks, walksFrom, inAllOrders, every-walk}
 use Rattle.ring.proofs.Demand.{same-place}
 
@@ -71,8 +71,8 @@ all-nothing = tt
 -- ---- no pair test
 -- of an edge whose pair tests have the outcomes t
 unfoldable untested : List Bool → List Bool → List Bool → List Bool → Bool
-unfolding all decidedOn
-untested t p q r = not (beyondALine (p ∷ q ∷ r ∷ [])) || all (λ e. eqb (length (decidedOn (p ∷ q ∷ r ∷ []) (λ _. t) e .tests)) 0) three
+unfolding all orderingOn
+untested t p q r = not (beyondALine (p ∷ q ∷ r ∷ [])) || all (λ e. eqb (length (orderingOn (p ∷ q ∷ r ∷ []) (λ _. t) e .tests)) 0) three
 
 all-untested : T (all (λ t. all (λ p. all (λ q. all (untested t p q) seven) seven) seven) eight)
 unfolding all seven eight untested
@@ -87,25 +87,25 @@ module _ (p q r : List Bool) (mp : List·Memᴰ p seven) (mq : List·Memᴰ q se
   abbrev ss : List (List Bool)
   ss = p ∷ q ∷ r ∷ []
 
-  pub apart-nothing : Nothing ss (ordersOf ss ts)
-  apart-nothing = from-test ss (ordersOf ss ts) h (every-walk nothing all-nothing p q r mp mq mr ts mt)
+  pub nothing-beyond : Nothing ss (ordersOf ss ts)
+  nothing-beyond = from-test ss (ordersOf ss ts) h (every-walk nothing all-nothing p q r mp mq mr ts mt)
 
-  pub apart-untested : (e : ℕ) → List·Memᴰ e three → decidedOn ss ts e .tests ≡ []
-  unfolding untested decidedOn
-  apart-untested e me =
-      no-tests (decidedOn ss ts e .tests) (eqb→eq _ 0
-      (all-at (λ f. eqb (length (decidedOn ss (λ _. ts e) f .tests)) 0) three
-      (subst (λ b. T (not b || all (λ f. eqb (length (decidedOn ss (λ _. ts e) f .tests)) 0) three)) h
+  pub untested-beyond : (e : ℕ) → List·Memᴰ e three → orderingOn ss ts e .tests ≡ []
+  unfolding untested orderingOn
+  untested-beyond e me =
+      no-tests (orderingOn ss ts e .tests) (eqb→eq _ 0
+      (all-at (λ f. eqb (length (orderingOn ss (λ _. ts e) f .tests)) 0) three
+      (subst (λ b. T (not b || all (λ f. eqb (length (orderingOn ss (λ _. ts e) f .tests)) 0) three)) h
       (all-at (untested (ts e) p q) seven
       (all-at (λ q. all (untested (ts e) p q) seven) seven
       (all-at (λ p. all (λ q. all (untested (ts e) p q) seven) seven) seven
       (all-at (λ t. all (λ p. all (λ q. all (untested t p q) seven) seven) seven) eight all-untested (mt e)) mp) mq) mr)) me))
 
 -- ---- numbers of places
-all-decoded : T (all (λ p. samePlace (placeOf (codeOf p)) p) fifteen)
+all-decoded : T (all (λ p. samePlace (placeOfCode (codeOf p)) p) fifteen)
 unfolding all samePlace
 all-decoded = tt
 
 -- each of the fifteen places is told by its number
-pub decoded : (p : Place) → List·Memᴰ p fifteen → placeOf (codeOf p) ≡ p
-decoded p m = same-place _ p (all-at (λ p. samePlace (placeOf (codeOf p)) p) fifteen all-decoded m)
+pub decoded : (p : Place) → List·Memᴰ p fifteen → placeOfCode (codeOf p) ≡ p
+decoded p m = same-place _ p (all-at (λ p. samePlace (placeOfCode (codeOf p)) p) fifteen all-decoded m)

@@ -11,7 +11,7 @@ use borrow.Author.Tests.{ltb-true}
 use Rattle.floats.proofs.Lists.{so, os}
 use Rattle.lines.specs.Lines.{sign}
 use Rattle.walk.specs.declared.Walk.{Walk}
-use Rattle.walk.specs.Code.{coded, leftBy, firstBy, begun, pushed, cornered, entering, leaving, alongEdge, closing, walkOf, ringOf}
+use Rattle.walk.specs.Code.{coded, leftBy, firstBy, begun, pushed, cornered, entering, leaving, alongEdge, closing, walkOf, flagsAndRing}
 
 record Fits (w : Walk) : Type 0 where
   most : w .n ≤ 6
@@ -66,6 +66,6 @@ walk-fits : (ss : List (List Bool)) (p q r k : List Bool) → Fits (walkOf ss p 
 unfolding walkOf begun
 walk-fits ss p q r k = closing-fits _ k _ (along-fits _ k _ 2 _ r (along-fits _ k _ 1 _ q (along-fits begun k _ 0 _ p (record { most = omega arith }))))
 
-pub six-at-most : (ss os : List (List Bool)) → ringOf ss os .n ≤ 6
-unfolding ringOf
+pub six-at-most : (ss os : List (List Bool)) → flagsAndRing ss os .n ≤ 6
+unfolding flagsAndRing
 six-at-most ss os = walk-fits ss _ _ _ _ .most

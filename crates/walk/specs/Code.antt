@@ -9,7 +9,7 @@ use Rattle.floats.specs.Lists.{differ}
 use Rattle.lines.specs.Lines.{three, cornerOn, lowerLine, upperLine, start, lowerEnd, higherEnd, sign, signsAt}
 use Rattle.order.specs.Order.{orderAt}
 use Rattle.edges.specs.Code.{beforeIn}
-use Rattle.walk.specs.declared.Corner.{Corner}
+use Rattle.walk.specs.declared.PlaceCode.{PlaceCode}
 use Rattle.walk.specs.declared.Edge.{Edge}
 use Rattle.walk.specs.declared.Walk.{Walk}
 use Rattle.walk.specs.declared.Ring.{Ring}
@@ -43,7 +43,7 @@ unfoldable pub edgeAt : List (List Bool) → List (List Bool) → ℕ → Edge
 edgeAt ss os e = edgeOf (getD ss (lowerEnd e) []) (getD ss (higherEnd e) []) (getD os e [])
 
 -- ---- the walk
-abbrev pub coded : ℕ → Corner
+abbrev pub coded : ℕ → PlaceCode
 coded k = record { code = k }
 
 unfoldable pub begun : Walk
@@ -120,8 +120,8 @@ walkOf ss p q r k =
     let from : ℕ → List Bool = λ e. getD ss (start e) [] in
     closing (alongEdge (alongEdge (alongEdge begun k some 0 (from 0) p) k some 1 (from 1) q) k some 2 (from 2) r) k some
 
-unfoldable pub ringOf : List (List Bool) → List (List Bool) → Ring
-ringOf ss os =
+unfoldable pub flagsAndRing : List (List Bool) → List (List Bool) → Ring
+flagsAndRing ss os =
     let a = edgeAt ss os 0 in
     let b = edgeAt ss os 1 in
     let c = edgeAt ss os 2 in
@@ -137,8 +137,8 @@ beyondALine ss =
 
 -- ---- against the rules
 -- the place of a number
-abbrev pub placeOf : ℕ → Place
-placeOf k = cond (ltb k 3) (vertex k) (cond (ltb k 6) (corner (k - 3)) (crossing ((k - 6) / 3) ((k - 6) % 3)))
+abbrev pub placeOfCode : ℕ → Place
+placeOfCode k = cond (ltb k 3) (vertex k) (cond (ltb k 6) (corner (k - 3)) (crossing ((k - 6) / 3) ((k - 6) % 3)))
 
 -- the numbers of the ring's places
 abbrev pub codesOf : Ring → List ℕ

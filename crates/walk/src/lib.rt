@@ -1,16 +1,16 @@
 // Flags and ring of two triangles, from the signs of U's vertices and the orders along U's edges.
 ghost use mathlib.Core.Path.{_≡_};
 ghost use Prim.Native.Nat.{_<_, _≤_};
-ghost use Rattle.walk.specs.Code.{edgeOf, edgeAt, begun, pushed, lineAmong, isOnLine, cornered, entering, leaving, alongEdge, closing, insideOf, neighboursOf, allPlus, walkOf, ringOf, beyondALine};
+ghost use Rattle.walk.specs.Code.{edgeOf, edgeAt, begun, pushed, lineAmong, isOnLine, cornered, entering, leaving, alongEdge, closing, insideOf, neighboursOf, allPlus, walkOf, flagsAndRing, beyondALine};
 
 // A place of the ring, by number: U's vertices are 0, 1, 2, V's corners 3, 4, 5, and from 6 on each edge of U has three crossings, by line.
-pub struct Corner {
+pub struct PlaceCode {
     pub code: u8,
 }
 
 // The ring's first n places, and the nine flags.
 pub struct Ring {
-    pub places: [Corner; 6],
+    pub places: [PlaceCode; 6],
     pub n: usize,
     pub u_in_v: [bool; 3],
     pub v_in_u: [bool; 3],
@@ -26,7 +26,7 @@ struct Edge {
 
 // The ring so far; the line by which V was last left, and the line by which it was first entered, 3 while there is none.
 struct Walk {
-    places: [Corner; 6],
+    places: [PlaceCode; 6],
     n: usize,
     left: u8,
     first: u8,
@@ -74,7 +74,7 @@ fn begin() -> Walk
     ensures { λ r. ⌜ r ≡ begun ⌝ }
 {
     Walk {
-        places: [Corner { code: 0 }; 6],
+        places: [PlaceCode { code: 0 }; 6],
         n: 0,
         left: 3,
         first: 3,
@@ -88,7 +88,7 @@ fn push(w: Walk, test: bool, code: u8) -> Walk
     let n = w.n;
     if test & (n < 6) {
         let mut v = w;
-        v.places[n] = Corner { code };
+        v.places[n] = PlaceCode { code };
         v.n = n + 1;
         return v;
     }
@@ -261,8 +261,8 @@ fn walk_of(
 }
 
 // Flags and ring, of the signs of U's three vertices and of the orders along U's three edges, each seen from its lower vertex, by V's corners.
-pub fn ring_of(signs: [[bool; 3]; 3], before: [[bool; 3]; 3]) -> Ring
-    ensures { λ r. ⌜ r ≡ ringOf signs before ⌝ }
+pub fn flags_and_ring(signs: [[bool; 3]; 3], before: [[bool; 3]; 3]) -> Ring
+    ensures { λ r. ⌜ r ≡ flagsAndRing signs before ⌝ }
 {
     let s = signs[0];
     let t = signs[1];
@@ -290,7 +290,7 @@ pub fn ring_of(signs: [[bool; 3]; 3], before: [[bool; 3]; 3]) -> Ring
 }
 
 // Whether one of V's lines has all three vertices of U on its minus side. Then no pair test is computed, and there is neither a flag nor a ring.
-pub fn apart(signs: [[bool; 3]; 3]) -> bool
+pub fn beyond_a_line(signs: [[bool; 3]; 3]) -> bool
     ensures { λ r. ⌜ r ≡ beyondALine signs ⌝ }
 {
     let x = signs[0][0] | (signs[1][0] | signs[2][0]);

@@ -5,15 +5,15 @@ use mathlib.Core.List.{_++_, append-assoc}
 use native.Mathlib.Omega.{arith}
 use lib.ListN.{length, length-append}
 use Rattle.text.specs.Decimal.{decimal}
-use Rattle.layout.specs.Verdict.{said}
+use Rattle.layout.specs.Verdict.{numberAt}
 use Rattle.listing.specs.Words.{testWord, trainWord, pairsWord, leaksWord, refusedWord, atWord, feed, firstLine, leakLine, refusedLine}
-use Rattle.wording.specs.Lines.{lineOf}
+use Rattle.wording.specs.Lines.{leakLineOf}
 
-pub line-length : (t r n : ℕ) → length (lineOf t r n) ≡ 20 + length (decimal t) + length (decimal r) + length (decimal n)
+pub line-length : (t r n : ℕ) → length (leakLineOf t r n) ≡ 20 + length (decimal t) + length (decimal r) + length (decimal n)
 unfolding leakLine
 line-length t r n = simp length-append (omega arith)
 
-pub line-is : (t r n : ℕ) → ((testWord ++ decimal t) ++ (trainWord ++ decimal r)) ++ (pairsWord ++ decimal n) ++ feed ≡ lineOf t r n
+pub line-is : (t r n : ℕ) → ((testWord ++ decimal t) ++ (trainWord ++ decimal r)) ++ (pairsWord ++ decimal n) ++ feed ≡ leakLineOf t r n
 unfolding leakLine
 line-is t r n =
     ap (λ y. y ++ (pairsWord ++ decimal n) ++ feed) (sym (append-assoc (testWord ++ decimal t) trainWord (decimal r)))
@@ -27,10 +27,10 @@ pub first-is : (k : ℕ) → (leaksWord ++ decimal k) ++ feed ≡ firstLine k
 unfolding firstLine
 first-is k = refl
 
-pub refused-length : (n p : ℕ) → length (refusedLine (said n p)) ≡ 13 + length (decimal n) + length (decimal p)
+pub refused-length : (n p : ℕ) → length (refusedLine (numberAt n p)) ≡ 13 + length (decimal n) + length (decimal p)
 unfolding refusedLine
 refused-length n p = simp length-append (omega arith)
 
-pub refused-is : (n p : ℕ) → ((refusedWord ++ decimal n) ++ (atWord ++ decimal p)) ++ feed ≡ refusedLine (said n p)
+pub refused-is : (n p : ℕ) → ((refusedWord ++ decimal n) ++ (atWord ++ decimal p)) ++ feed ≡ refusedLine (numberAt n p)
 unfolding refusedLine
 refused-is n p = ap (λ y. y ++ feed) (sym (append-assoc (refusedWord ++ decimal n) atWord (decimal p)))

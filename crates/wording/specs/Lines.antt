@@ -4,5 +4,5 @@ use mathlib.Core.List.{List}
 use Rattle.listing.specs.Words.{leakLine}
 
 -- the leak line of two ids and N
-abbrev pub lineOf : ℕ → ℕ → ℕ → List ℕ
-lineOf test train n = leakLine (record { test = test; train = train; pairs = n })
+abbrev pub leakLineOf : ℕ → ℕ → ℕ → List ℕ
+leakLineOf test train n = leakLine (record { test = test; train = train; pairs = n })

@@ -2,11 +2,11 @@
 ghost use mathlib.Core.List.{_++_};
 ghost use Prim.Native.Nat.{_+_, _≤_};
 ghost use lib.ListN.{length};
-ghost use Rattle.layout.specs.Verdict.{said};
+ghost use Rattle.layout.specs.Verdict.{numberAt};
 ghost use Rattle.text.specs.Decimal.{decimal};
 ghost use Rattle.text.specs.Room.{Measured, Put};
 ghost use Rattle.listing.specs.Words.{firstLine, refusedLine};
-ghost use Rattle.wording.specs.Lines.{lineOf};
+ghost use Rattle.wording.specs.Lines.{leakLineOf};
 
 // A word and a number where there is room for them, from a place on; the place behind them.
 fn put_field(room: &mut [u8], at: usize, word: &[u8], n: u32) -> usize
@@ -19,15 +19,15 @@ fn put_field(room: &mut [u8], at: usize, word: &[u8], n: u32) -> usize
 
 // The length of a leak line.
 pub fn line_length(test: u32, train: u32, n: u32) -> usize
-    ensures { λ r. ⌜ Measured (lineOf test train n) r × (r ≤ 20000000000) ⌝ }
+    ensures { λ r. ⌜ Measured (leakLineOf test train n) r × (r ≤ 20000000000) ⌝ }
 {
     20 + text::width(test) + text::width(train) + text::width(n)
 }
 
 // A leak line where there is room for it, likewise.
 fn put_line_in(room: &mut [u8], at: usize, test: u32, train: u32, n: u32) -> usize
-    requires { ⌜ at + length (lineOf test train n) ≤ length (now room) ⌝ }
-    ensures { λ r. ⌜ Put (now (room .entry)) at (lineOf test train n) (now (room .exit)) r ⌝ }
+    requires { ⌜ at + length (leakLineOf test train n) ≤ length (now room) ⌝ }
+    ensures { λ r. ⌜ Put (now (room .entry)) at (leakLineOf test train n) (now (room .exit)) r ⌝ }
 {
     let p = put_field(room, at, b"test ", test);
     let q = put_field(room, p, b" train ", train);
@@ -37,7 +37,7 @@ fn put_line_in(room: &mut [u8], at: usize, test: u32, train: u32, n: u32) -> usi
 
 // A leak line, from a place on; the place behind it. Where it does not fit, nothing is put, and the place stays.
 pub fn put_line(room: &mut [u8], at: usize, test: u32, train: u32, n: u32) -> usize
-    ensures { λ r. ⌜ Put (now (room .entry)) at (lineOf test train n) (now (room .exit)) r ⌝ }
+    ensures { λ r. ⌜ Put (now (room .entry)) at (leakLineOf test train n) (now (room .exit)) r ⌝ }
 {
     let size = line_length(test, train, n);
     let most = room.len();
@@ -71,7 +71,7 @@ pub fn put_first(room: &mut [u8], k: u32) -> usize
 
 // The line that says how a file is refused, likewise.
 pub fn put_refusal(room: &mut [u8], number: u32, place: u32) -> usize
-    ensures { λ r. ⌜ Put (now (room .entry)) 0 (refusedLine (said number place)) (now (room .exit)) r ⌝ }
+    ensures { λ r. ⌜ Put (now (room .entry)) 0 (refusedLine (numberAt number place)) (now (room .exit)) r ⌝ }
 {
     let whole = 13 + text::width(number) + text::width(place);
     if room.len() < whole {

@@ -12,9 +12,9 @@ use Rattle.text.proofs.Room.{whole-or-nothing}
 use Rattle.listing.specs.declared.Listed.{Listed}
 use Rattle.listing.specs.Leaks.{Leak}
 use Rattle.listing.specs.Words.{firstLine, leakLines}
-use Rattle.listing.specs.Listing.{refused, tooShort}
+use Rattle.listing.specs.Listing.{noList, tooShort}
 use Rattle.wording.proofs.Lines.{first-length}
-use Rattle.writing.specs.Triples.{lesser, heldIn, textOf, wholeOf, WrittenAs}
+use Rattle.writing.specs.Triples.{lesser, heldIn, textOf, listFrom, WrittenAs}
 
 -- ---- how many leaks there are numbers for
 lesser-all : (a b : ℕ) → a ≤ b → lesser a b ≡ a
@@ -50,8 +50,8 @@ some ls =
     omega (arith, first, all)
 
 module _ (ls : List Leak) (room : List ℕ) {after : List ℕ} where
-  pub written-not : {r : Listed} {next : ℕ} → Put room 0 (textOf ls) after next → next ≡ 0 → r ≡ refused [] tooShort .result → WrittenAs ls room r after
-  unfolding wholeOf
+  pub written-not : {r : Listed} {next : ℕ} → Put room 0 (textOf ls) after next → next ≡ 0 → r ≡ noList [] tooShort .result → WrittenAs ls room r after
+  unfolding listFrom
   written-not {r} {next} p z e = go (ltb (length room) (length (textOf ls))) refl
     where
       go : (b : Bool) → ltb (length room) (length (textOf ls)) ≡ b → WrittenAs ls room r after
@@ -64,7 +64,7 @@ module _ (ls : List Leak) (room : List ℕ) {after : List ℕ} where
           absurd (omega (arith, behind, z, full))
 
   pub written-all : {next count : ℕ} → Put room 0 (textOf ls) after next → (next ≡ 0 → ⊥) → count ≡ length ls → WrittenAs ls room (record { number = 0; place = 0; length = next; leaks = count }) after
-  unfolding wholeOf
+  unfolding listFrom
   written-all {next} {count} p n e = go (ltb (length room) (length (textOf ls))) refl
     where
       go : (b : Bool) → ltb (length room) (length (textOf ls)) ≡ b → WrittenAs ls room (record { number = 0; place = 0; length = next; leaks = count }) after

@@ -8,7 +8,7 @@ use lib.ListN.{length, getD}
 use Rattle.listing.specs.declared.Listed.{Listed}
 use Rattle.listing.specs.Leaks.{Leak}
 use Rattle.listing.specs.Words.{firstLine, leakLine, leakLines}
-use Rattle.listing.specs.Listing.{Whole, refused, tooShort, answered}
+use Rattle.listing.specs.Listing.{ListAndRoom, noList, tooShort, listIn}
 
 -- triple k, from 0, as a leak: two ids and N
 abbrev pub leakAt : List ℕ → ℕ → Leak
@@ -37,10 +37,10 @@ abbrev pub textOf : List Leak → List ℕ
 textOf ls = firstLine (length ls) ++ leakLines ls
 
 -- in the room, or refusal 7 where the room is shorter
-unfoldable pub wholeOf : List Leak → List ℕ → Whole
-wholeOf ls room = cond (ltb (length room) (length (textOf ls))) (refused room tooShort) (answered room (textOf ls) (length ls))
+unfoldable pub listFrom : List Leak → List ℕ → ListAndRoom
+listFrom ls room = cond (ltb (length room) (length (textOf ls))) (noList room tooShort) (listIn room (textOf ls) (length ls))
 
 -- what is promised of writing them: the result and the room afterwards
 pub record WrittenAs (ls : List Leak) (room : List ℕ) (result : Listed) (after : List ℕ) : Type 0 where
-  pub result-is : result ≡ wholeOf ls room .result
-  pub after-is : after ≡ wholeOf ls room .room
+  pub result-is : result ≡ listFrom ls room .result
+  pub after-is : after ≡ listFrom ls room .room

@@ -3,14 +3,14 @@ ghost use mathlib.Core.Path.{_≡_};
 ghost use mathlib.Core.List.{[]};
 ghost use Prim.Native.Nat.{_+_, _*_, _≤_};
 ghost use lib.ListN.{length};
-ghost use Rattle.layout.specs.Verdict.{said};
+ghost use Rattle.layout.specs.Verdict.{numberAt};
 ghost use Rattle.text.specs.Room.{Measured, Put};
-ghost use Rattle.listing.specs.Listing.{refused as refusedAs};
+ghost use Rattle.listing.specs.Listing.{noList};
 ghost use Rattle.writing.specs.Triples.{leaksIn, linesIn, lesser as lesserOf, heldIn, textOf, WrittenAs};
 
 // A refusal: its number and its place, with zeros.
-pub fn refused(number: u32, place: u32) -> listing::Listed
-    ensures { λ r. ⌜ r ≡ refusedAs [] (said number place) .result ⌝ }
+pub fn no_list(number: u32, place: u32) -> listing::Listed
+    ensures { λ r. ⌜ r ≡ noList [] (numberAt number place) .result ⌝ }
 {
     listing::Listed {
         number,
@@ -83,7 +83,7 @@ pub fn write(room: &mut [u8], found: &[u32], k: usize) -> listing::Listed
     let size = put_list(room, found, n);
     // No list is empty, so nothing was put.
     if size == 0 {
-        return refused(7, 0);
+        return no_list(7, 0);
     }
     listing::Listed {
         number: 0,

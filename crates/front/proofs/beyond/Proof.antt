@@ -32,8 +32,8 @@ signs-of-requires-2 c κs = search needs
 signs-of-requires-3 : tie.Need-signs-of-requires-3
 signs-of-requires-3 c κs = search needs
 
-apart-requires : tie.Need-apart-requires
-apart-requires c κs = search needs
+beyond-a-line-requires : tie.Need-beyond-a-line-requires
+beyond-a-line-requires c κs = search needs
 
 returns : tie.Need-returns
 returns c =
@@ -44,7 +44,7 @@ returns c =
     let b5 = b4 .before in
     let b6 = b5 .before in
     let g = b6 .args in
-    looked (g .d) (g .e) (g .p) (g .q) (g .r) (b5 .clear .ensures) (b4 .if1 .taken) (b3 .signs-of .ensures) (b2 .signs-of2 .ensures) (b1 .signs-of3 .ensures) (c .apart .ensures)
+    looked (g .d) (g .e) (g .p) (g .q) (g .r) (b5 .clear .ensures) (b4 .if1 .taken) (b3 .signs-of .ensures) (b2 .signs-of2 .ensures) (b1 .signs-of3 .ensures) (c .beyond-a-line .ensures)
 
 returns-2 : tie.Need-returns-2
 returns-2 c =
@@ -61,6 +61,6 @@ beyond-spec =
     signs-of-requires
     signs-of-requires-2
     signs-of-requires-3
-    apart-requires
+    beyond-a-line-requires
     returns
     returns-2)

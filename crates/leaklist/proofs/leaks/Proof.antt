@@ -11,11 +11,11 @@ use Rattle.leaklist.proofs.leaks.Tie as tie
 check-requires : tie.Need-check-requires
 check-requires c κs = search needs
 
-refused-requires : tie.Need-refused-requires
-refused-requires c κs = search needs
+no-list-requires : tie.Need-no-list-requires
+no-list-requires c κs = search needs
 
 returns : tie.Need-returns
-returns c = let g = c .before .before .before .before .before .before .args in keeps-refusal (now (g .file)) (now (g .room)) (c .before .before .before .check .ensures) (c .before .if1 .taken) (c .refused .ensures)
+returns c = let g = c .before .before .before .before .before .before .args in keeps-refusal (now (g .file)) (now (g .room)) (c .before .before .before .check .ensures) (c .before .if1 .taken) (c .no-list .ensures)
 
 listed-requires : tie.Need-listed-requires
 listed-requires c κs = let g = c .before .before .before .before .before .before .args in has-layout (now (g .file)) (sym (ap (λ v. v .number) (c .before .before .before .check .ensures)) ∙ c .before .if1 .left)
@@ -29,4 +29,4 @@ returns-2 c = search needs
 pub leaks-spec : {M : Type 1} → statement M
 leaks-spec =
     tie.close
-    (tie.spec check-requires refused-requires returns listed-requires same-length returns-2)
+    (tie.spec check-requires no-list-requires returns listed-requires same-length returns-2)

@@ -5,13 +5,13 @@ use denote.Ref.{now}
 use lib.ListN.{length}
 use mathlib.Core.Path.{refl}
 use Rattle.layout.specs.Recordings.{partOf}
-use Rattle.layout.specs.Promise.{Demand2}
+use Rattle.layout.specs.Promise.{FileDemand2}
 use Rattle.layout.proofs.Answered.{returned-two}
 use Rattle.recordings.proofs.Recorded.{no-part, part-is}
 use Rattle.recordings.proofs.part.Statement.{statement}
 use Rattle.recordings.proofs.part.Tie as tie
 
-told : (c : tie.Else1) → Demand2 (now (c .before .before .before .before .args .file)) (c .before .before .before .before .args .k) (c .before .before .recording .result) (partOf (now (c .before .before .before .before .args .file)) (c .before .before .before .before .args .k))
+told : (c : tie.Else1) → FileDemand2 (now (c .before .before .before .before .args .file)) (c .before .before .before .before .args .k) (c .before .before .recording .result) (partOf (now (c .before .before .before .before .args .file)) (c .before .before .before .before .args .k))
 told c = returned-two _ _ _ _ (c .before .before .recording .ensures) refl (c .if1 .left)
 
 recording-requires : tie.Need-recording-requires

@@ -15,11 +15,11 @@ good c = layout-of _ (c .before .before .check .ensures) (c .if1 .left)
 check-requires : tie.Need-check-requires
 check-requires c κs = search needs
 
-refused-requires : tie.Need-refused-requires
-refused-requires c κs = search needs
+no-recording-requires : tie.Need-no-recording-requires
+no-recording-requires c κs = search needs
 
 returns : tie.Need-returns
-returns c = by-verdict _ _ (c .before .before .before .check .ensures) (c .before .if1 .taken) (c .refused .ensures)
+returns c = by-verdict _ _ (c .before .before .before .check .ensures) (c .before .if1 .taken) (c .no-recording .ensures)
 
 sub-u32-at : tie.Need-sub-u32-at
 sub-u32-at c = let g = good c in omega (arith, g .atLeast12)
@@ -30,11 +30,11 @@ u32-at-requires c κs = search needs
 cast-if2 : tie.Need-cast-if2
 cast-if2 c = search needs
 
-refused-requires-2 : tie.Need-refused-requires-2
-refused-requires-2 c κs = search needs
+no-recording-requires-2 : tie.Need-no-recording-requires-2
+no-recording-requires-2 c κs = search needs
 
 returns-2 : tie.Need-returns-2
-returns-2 c = no-recording _ _ (good (c .before .before .before)) (count-read _ (c .before .before .u32-at .ensures)) (omega (arith, c .before .if2 .taken)) (c .refused2 .ensures)
+returns-2 c = no-recording _ _ (good (c .before .before .before)) (count-read _ (c .before .before .u32-at .ensures)) (omega (arith, c .before .if2 .taken)) (c .no-recording2 .ensures)
 
 sub-u32-at-2 : tie.Need-sub-u32-at-2
 sub-u32-at-2 c = let g = good (c .before .before) in omega (arith, g .atLeast12)
@@ -67,12 +67,12 @@ recording-spec =
     tie.close
     (tie.spec
     check-requires
-    refused-requires
+    no-recording-requires
     returns
     sub-u32-at
     u32-at-requires
     cast-if2
-    refused-requires-2
+    no-recording-requires-2
     returns-2
     sub-u32-at-2
     u32-at-requires-2

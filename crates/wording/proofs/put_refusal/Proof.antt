@@ -3,7 +3,7 @@ use Prim.Native.Nat.{_+_, _-_}
 use borrow.Author.Needs.{needs}
 use denote.Ref.{now}
 use native.Mathlib.Omega.{arith}
-use Rattle.layout.specs.Verdict.{said}
+use Rattle.layout.specs.Verdict.{numberAt}
 use Rattle.wording.proofs.Lines.{refused-length, refused-is}
 use Rattle.listing.specs.Words.{refusedLine}
 use Rattle.text.proofs.Room.{put-nothing, put-next, put-length, put-three, put-as}
@@ -23,7 +23,7 @@ add-whole-2 : tie.Need-add-whole-2
 add-whole-2 c = search needs
 
 returns : tie.Need-returns
-returns c = let g = c .before .before .before .before .args in put-nothing (now (g .room)) (refusedLine (said (g .number) (g .place))) 0 (13 + c .before .before .width .result + c .before .width2 .result) (omega (arith, refused-length (g .number) (g .place), c .before .before .width .ensures .0, c .before .width2 .ensures .0)) (omega (arith, c .if1 .taken))
+returns c = let g = c .before .before .before .before .args in put-nothing (now (g .room)) (refusedLine (numberAt (g .number) (g .place))) 0 (13 + c .before .before .width .result + c .before .width2 .result) (omega (arith, refused-length (g .number) (g .place), c .before .before .width .ensures .0, c .before .width2 .ensures .0)) (omega (arith, c .if1 .taken))
 
 slice-aggregate-put-field : tie.Need-slice-aggregate-put-field
 slice-aggregate-put-field c = search needs

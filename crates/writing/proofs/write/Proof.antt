@@ -18,8 +18,8 @@ lesser-requires-2 c κs = search needs
 put-list-requires : tie.Need-put-list-requires
 put-list-requires c κs = search needs
 
-refused-requires : tie.Need-refused-requires
-refused-requires c κs = search needs
+no-list-requires : tie.Need-no-list-requires
+no-list-requires c κs = search needs
 
 same-length : tie.Need-same-length
 same-length c = search needs
@@ -28,7 +28,7 @@ returns : tie.Need-returns
 returns c = let g = c .before .before .before .before .before .before .before .before .before .before .args in
     let n = held-is (now (g .found)) (g .k) (c .before .before .before .before .before .before .before .lesser .ensures .0) (c .before .before .before .before .before .before .lesser2 .ensures .0) in
     let put = put-as (ap (λ m. textOf (leaksIn (now (g .found)) m)) n) (c .before .before .before .before .put-list .ensures) in
-    written-not (leaksIn (now (g .found)) (heldIn (now (g .found)) (g .k))) (now (g .room)) put (c .before .if1 .taken) (c .refused .ensures)
+    written-not (leaksIn (now (g .found)) (heldIn (now (g .found)) (g .k))) (now (g .room)) put (c .before .if1 .taken) (c .no-list .ensures)
 
 cast-t12 : tie.Need-cast-t12
 cast-t12 c = search needs
@@ -49,7 +49,7 @@ write-spec =
     lesser-requires
     lesser-requires-2
     put-list-requires
-    refused-requires
+    no-list-requires
     same-length
     returns
     cast-t12

@@ -6,15 +6,15 @@ use lib.ListN.{getD}
 use Rattle.walk.specs.declared.Edge.{Edge}
 use Rattle.walk.specs.declared.Walk.{Walk}
 use Rattle.walk.specs.declared.Ring.{Ring}
-use Rattle.walk.specs.Code.{edgeAt, insideOf, neighboursOf, allPlus, walkOf, ringOf}
+use Rattle.walk.specs.Code.{edgeAt, insideOf, neighboursOf, allPlus, walkOf, flagsAndRing}
 use borrow.Author.Needs.{needs}
-use Rattle.walk.proofs.ring_of.Statement.{statement}
-use Rattle.walk.proofs.ring_of.Tie as tie
+use Rattle.walk.proofs.flags_and_ring.Statement.{statement}
+use Rattle.walk.proofs.flags_and_ring.Tie as tie
 
 together : (ss os : List (List Bool)) (a b c : Edge) (k : List Bool) (w : Walk) (x y z : Bool) (beside : List Bool) → a ≡ edgeAt ss os 0 → b ≡ edgeAt ss os 1 → c ≡ edgeAt ss os 2 →
     k ≡ insideOf (a .beside) (b .beside) (c .beside) → w ≡ walkOf ss (a .on) (b .on) (c .on) k → x ≡ allPlus (getD ss 0 []) → y ≡ allPlus (getD ss 1 []) → z ≡ allPlus (getD ss 2 []) → beside ≡ neighboursOf (a .on) (b .on) (c .on) k →
-    _≡_ {A = Ring} (record { places = w .places; n = w .n; «u_in_v» = x ∷ y ∷ z ∷ []; «v_in_u» = k; neighbour = beside }) (ringOf ss os)
-unfolding ringOf
+    _≡_ {A = Ring} (record { places = w .places; n = w .n; «u_in_v» = x ∷ y ∷ z ∷ []; «v_in_u» = k; neighbour = beside }) (flagsAndRing ss os)
+unfolding flagsAndRing
 together ss os a b c k w x y z beside ha hb hc hk hw hx hy hz hn = rw (hx, hy, hz, hn, hw, hk, ha, hb, hc) refl
 
 array-copy-out-s : tie.Need-array-copy-out-s
@@ -67,8 +67,8 @@ returns c =
     together (g .t1) (g .before) _ _ _ _ _ _ _ _ _ (b15 .edge-at .ensures) (b14 .edge-at2 .ensures) (b13 .edge-at3 .ensures)
     (b6 .inside-of .ensures) (b5 .walk-of .ensures) (b3 .all-plus .ensures) (b2 .all-plus2 .ensures) (b1 .all-plus3 .ensures) (c .neighbours-of .ensures)
 
-pub ring-of-spec : {M : Type 1} → statement M
-ring-of-spec =
+pub flags-and-ring-spec : {M : Type 1} → statement M
+flags-and-ring-spec =
     tie.close
     (tie.spec
     array-copy-out-s
