@@ -54,6 +54,7 @@ tree="$scratch/tree"
 mkdir -p "$tree"/{bin,tools} "$tree"/crates/{floats,lines,leaks,other}/{src,specs,must-fail}
 cp "$leaks" "$tree/bin/leaks"
 cp "$(dirname "$leaks")"/*.sh "$tree/bin"
+cp "$(dirname "$leaks")/../refusals.tsv" "$tree"
 printf '%s\n' '# The crates.' 'floats:' 'lines: floats' 'leaks: lines floats io libc' 'other: floats' >"$tree/crates.txt"
 for source in floats/src/lib.rt lines/src/lib.rt leaks/src/main.rt other/src/lib.rt; do
     echo 1 >"$tree/crates/$source"
