@@ -3,4 +3,4 @@ pub mod Counted
 pub mod Triples
 pub mod Gathered
 pub mod Written
-pub mod Said
+pub mod Whole

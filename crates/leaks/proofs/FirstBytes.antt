@@ -14,7 +14,7 @@ use Rattle.layout.specs.declared.Verdict.{Verdict}
 use Rattle.layout.proofs.Returned.{file-first}
 use Rattle.listing.specs.Words.{listText, refusedLine}
 use Rattle.listing.specs.Listing.{outputOf}
-use Rattle.leaklist.proofs.Said.{over-length}
+use Rattle.leaklist.proofs.Whole.{over-length}
 use Rattle.leaks.specs.Answer.{FirstBytes}
 
 -- of a file that is too long

@@ -10,9 +10,9 @@ use lib.Seq.{take-all}
 use Rattle.text.specs.Room.{Put}
 use Rattle.text.proofs.Room.{unique, whole-or-nothing, put-none, put-as}
 use Rattle.listing.specs.Listing.{outputOf}
-use Rattle.listing.specs.Enough.{Bytes}
+use Rattle.layout.specs.Bytes.{Bytes}
 use Rattle.leaklist.specs.Code.{toldOf}
-use Rattle.leaklist.proofs.Said.{said-whole}
+use Rattle.leaklist.proofs.Whole.{told-whole}
 use Rattle.input.specs.declared.Got.{Got}
 use Rattle.input.specs.declared.Piece.{Piece}
 use Rattle.input.specs.declared.Piece.the-variants.{Failed, Ended, More}
@@ -30,7 +30,7 @@ stands {text} {room} {after} {n} p =
 -- what is told of any bytes is what is to be said of them, and fits
 pub told-at-front : (file room : List ℕ) {after : List ℕ} {n : ℕ} → Bytes file → 65536 ≤ length room → Put room 0 (toldOf file room) after n → AtFront (outputOf file) room n after
 told-at-front file room {after} {n} bytes large p =
-    let s = said-whole file room bytes large in
+    let s = told-whole file room bytes large in
     record { put = put-as (s .whole) p; fits = s .fits }
 
 -- no second length and no second room

@@ -20,7 +20,8 @@ use Rattle.listing.specs.Turns.{upTo, each}
 use Rattle.listing.specs.Pairs.{isTest, isTraining, decisions}
 use Rattle.listing.specs.Leaks.{Leak, tests, trainings, recordingPairs, pairsMeeting, isLeak, leakPairs, leakOf, leaks}
 use Rattle.listing.specs.Words.{firstLine, leakLine, leakLines, listText}
-use Rattle.listing.specs.Enough.{Bytes, AlwaysEnough}
+use Rattle.layout.specs.Bytes.{Bytes}
+use Rattle.listing.specs.Enough.{AlwaysEnough}
 use Rattle.listing.proofs.Turns.{reached, unmapped}
 use Rattle.listing.proofs.Tallied.{how-many, length-upTo}
 use Rattle.listing.proofs.Demand.{counted, as-many}

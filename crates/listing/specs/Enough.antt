@@ -1,13 +1,10 @@
 -- 01, "The leak list": a room of 65,536 bytes is always enough. Statements only.
-use Prim.Native.Nat.{ℕ, _<_, _≤_}
+use Prim.Native.Nat.{ℕ, _≤_}
 use mathlib.Core.List.{List}
-use lib.ListN.{length, getD}
+use lib.ListN.{length}
+use Rattle.layout.specs.Bytes.{Bytes}
 use Rattle.layout.specs.Layout.{Layout}
 use Rattle.listing.specs.Words.{listText}
-
--- every number of the list is a byte
-abbrev pub Bytes : List ℕ → Type 0
-Bytes file = (k : ℕ) → getD file k 0 < 256
 
 -- the whole list of a good file has at most 65,536 bytes
 abbrev pub AlwaysEnough : Type 0

@@ -15,11 +15,11 @@ use Rattle.layout.specs.Recordings.{recordingOf, partOf}
 use Rattle.layout.specs.Promise.{FileDemand1}
 use Rattle.layout.proofs.Returned.{returned-one, number-range, is-good, has-layout}
 use Rattle.listing.specs.Words.{listText, refusedLine}
-use Rattle.listing.specs.Enough.{Bytes}
+use Rattle.layout.specs.Bytes.{Bytes}
 use Rattle.listing.proofs.Returned.{by-file, by-list, outputs}
 use Rattle.listing.proofs.Enough.{ten-digits, always-enough}
 use Rattle.leaklist.specs.Code.{toldOf}
-use Rattle.leaklist.specs.Said.{Said, SaidWhole}
+use Rattle.leaklist.specs.Whole.{ToldWhole, AlwaysToldWhole}
 use Rattle.wording.proofs.Lines.{refused-length}
 
 -- ---- the place of a refusal: in a file of at most 65,536 bytes it lies in the file, and a longer one is refused at 0
@@ -72,21 +72,21 @@ module _ (file : List ℕ) where
     told-refused h = rw (by-file file room h, ne-eqb (verdict file .number) 0 h) refl
 
     -- and both are what the program writes, and fit
-    of-good : Bytes file → 65536 ≤ length room → verdict file .number ≡ 0 → Said file room
+    of-good : Bytes file → 65536 ≤ length room → verdict file .number ≡ 0 → ToldWhole file room
     of-good bytes large z =
         let most = always-enough file bytes (has-layout file z) in
         let output = outputs file .good (has-layout file z) in
         record { whole = told-good z (omega (arith, most, large)) ∙ sym output; fits = rw output (omega (arith, most, large)) }
 
-    of-refused : 65536 ≤ length room → (verdict file .number ≡ 0 → ⊥) → Said file room
+    of-refused : 65536 ≤ length room → (verdict file .number ≡ 0 → ⊥) → ToldWhole file room
     of-refused large h =
         let most = refusal-most h in
         let output = outputs file .refused (λ l. h (is-good file l)) in
         record { whole = told-refused h ∙ sym output; fits = rw output (omega (arith, most, large)) }
 
-pub said-whole : SaidWhole
-said-whole file room bytes large = go (eqb (verdict file .number) 0) refl
+pub told-whole : AlwaysToldWhole
+told-whole file room bytes large = go (eqb (verdict file .number) 0) refl
   where
-    go : (b : Bool) → eqb (verdict file .number) 0 ≡ b → Said file room
+    go : (b : Bool) → eqb (verdict file .number) 0 ≡ b → ToldWhole file room
     go true e = of-good file room bytes large (eqb-true (verdict file .number) 0 e)
     go false e = of-refused file room large (eqb-false (verdict file .number) 0 e)
