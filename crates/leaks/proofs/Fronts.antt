@@ -6,7 +6,7 @@ use mathlib.Core.List.{List, []}
 use native.Mathlib.Omega.{arith}
 use native.Mathlib.Nat.{zero-add}
 use lib.ListN.{length, take}
-use lib.Seq.{take-all}
+use lib.Seq.{take-all, take-length, take-append-seam}
 use Rattle.text.specs.Room.{Put}
 use Rattle.text.proofs.Room.{unique, whole-or-nothing, put-none, put-as}
 use Rattle.listing.specs.Listing.{outputOf}
@@ -17,7 +17,7 @@ use Rattle.input.specs.declared.Got.{Got}
 use Rattle.input.specs.declared.Piece.{Piece}
 use Rattle.input.specs.declared.Piece.the-variants.{Failed, Ended, More}
 use Rattle.input.specs.Reading.{isRead, Stopped}
-use Rattle.leaks.specs.Answer.{AtFront, NoSecondFront, outputFor, Delivered}
+use Rattle.leaks.specs.Answer.{AtFront, NoSecondFront, outputFor, Delivered, Deliverable}
 use Rattle.leaks.proofs.FirstBytes.{first-bytes}
 
 -- the text stands at the front
@@ -36,6 +36,16 @@ told-at-front file room {after} {n} bytes large p =
 -- no second length and no second room
 pub unique-front : NoSecondFront
 unique-front text room a b m n p q = let u = unique ℕ room 0 text a b m n (p .put) (q .put) in (u .1, u .0)
+
+-- both kinds of input can be delivered
+pub deliverable : Deliverable
+deliverable = record {
+  short = λ input rest. record { bytes = take-append-seam input rest ∙ sym (take-length input); ended = λ _. refl };
+  long = λ space rest k. record { bytes = take-length space ∙ sym (take-append-seam space rest); ended = λ e. absurd (more-ends k e) };
+}
+  where
+    more-ends : (k : ℕ) → More k ≡ Ended → ⊥
+    more-ends k e = let z : _≡_ {A = ℕ} 0 1 = cc in omega (arith, z)
 
 module _ (g : Got) (space room : List ℕ) where
   -- what was delivered is all of the input, or as much as there is space for

@@ -2,7 +2,7 @@
 use Prim.Native.Nat.{ℕ, _≤_}
 use mathlib.Core.Path.{_≡_}
 use mathlib.Core.Bool.{true, cond}
-use mathlib.Core.List.{List, []}
+use mathlib.Core.List.{List, [], _++_}
 use lib.IntN.{ℤ}
 use lib.ListN.{length, take}
 use Rattle.libc.specs.Io.{Moved}
@@ -10,7 +10,7 @@ use Rattle.text.specs.Room.{Put}
 use Rattle.listing.specs.Listing.{outputOf}
 use Rattle.input.specs.declared.Got.{Got}
 use Rattle.input.specs.declared.Piece.{Piece}
-use Rattle.input.specs.declared.Piece.the-variants.{Ended}
+use Rattle.input.specs.declared.Piece.the-variants.{Ended, More}
 use Rattle.leaks.specs.declared.Reply.{Reply}
 use Rattle.input.specs.Reading.{pieceOf, isRead, Stopped}
 
@@ -35,6 +35,11 @@ outputFor g space = cond (isRead (g .last)) (outputOf (take (g .n) space)) []
 pub record Delivered (g : Got) (space input : List ℕ) : Type 0 where
   pub bytes : take (g .n) space ≡ take (g .n) input
   pub ended : g .last ≡ Ended → g .n ≡ length input
+
+-- it can be met: of an input that ends within the space, and of one that fills it
+pub record Deliverable : Type 0 where
+  pub short : (input rest : List ℕ) → Delivered (record { n = length input; last = Ended }) (input ++ rest) input
+  pub long : (space rest : List ℕ) (k : ℕ) → Delivered (record { n = length space; last = More k }) space (space ++ rest)
 
 -- what is promised of the reply to an input: the reading stopped as it should; what is said of the bytes in the space stands at the front of the room; and if they were delivered, that is what is to be said of the whole input
 pub record Replied (space room : List ℕ) (r : Reply) (after : List ℕ) : Type 0 where

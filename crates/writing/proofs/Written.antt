@@ -14,7 +14,7 @@ use Rattle.listing.specs.Leaks.{Leak}
 use Rattle.listing.specs.Words.{firstLine, leakLines}
 use Rattle.listing.specs.Listing.{noList, tooShort}
 use Rattle.wording.proofs.Lines.{first-length}
-use Rattle.writing.specs.Triples.{lesser, heldIn, textOf, listFrom, WrittenAs}
+use Rattle.writing.specs.Triples.{lesser, heldIn, textOf, listFrom, WrittenAs, NoSecondWritten}
 
 -- ---- how many leaks there are numbers for
 lesser-all : (a b : ℕ) → a ≤ b → lesser a b ≡ a
@@ -74,3 +74,6 @@ module _ (ls : List Leak) (room : List ℕ) {after : List ℕ} where
           let behind = whole-or-nothing p .whole (omega (arith, h)) .1 in
           let size : next ≡ length (textOf ls) = omega (arith, behind) in
           record { result-is = rw (t, size, e) refl; after-is = p .after-is ∙ rw t refl }
+
+pub no-second-written : NoSecondWritten
+no-second-written ls room r s a b p q = (p .result-is ∙ sym (q .result-is), p .after-is ∙ sym (q .after-is))

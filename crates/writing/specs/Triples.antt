@@ -44,3 +44,7 @@ listFrom ls room = cond (ltb (length room) (length (textOf ls))) (noList room to
 pub record WrittenAs (ls : List Leak) (room : List ℕ) (result : Listed) (after : List ℕ) : Type 0 where
   pub result-is : result ≡ listFrom ls room .result
   pub after-is : after ≡ listFrom ls room .room
+
+-- no second result and no second room meets it
+abbrev pub NoSecondWritten : Type 0
+NoSecondWritten = (ls : List Leak) (room : List ℕ) (r s : Listed) (a b : List ℕ) → WrittenAs ls room r a → WrittenAs ls room s b → (r ≡ s) × (a ≡ b)

@@ -16,6 +16,7 @@ use Rattle.leaks.specs.Answer.{Took}
 use Rattle.leaks.proofs.read_all.Statement.{statement}
 use Rattle.leaks.proofs.read_all.Tie as tie
 
+-- a read that brought bytes brought some, and no more than were asked for
 took-more : {most k : ℕ} {t : Piece} → Took most t → t ≡ More k → (0 < k) × (k ≤ most)
 took-more {most} {k} t e = more-within most (t .0) k (sym (t .2) ∙ e)
 
