@@ -4,12 +4,11 @@ use mathlib.Core.Bool.{Bool, true, false, not, _&&_, _||_, cond, Bool·beq}
 use mathlib.Core.List.{List, [], _∷_, map}
 use Prim.Native.Nat.{ℕ}
 use lib.Dec.{eqb, ltb}
-use lib.ListN.{getD, set}
-use lib.Ieee.{nan}
+use lib.ListN.{set}
 use Rattle.floats.specs.Lists.{all, any, differ}
 use Rattle.floats.specs.Finite.{finite}
 use Rattle.floats.specs.Way.{f64}
-use Rattle.lines.specs.Lines.{three, cornerOn, lowerLine, upperLine, lowerEnd, higherEnd, sign}
+use Rattle.lines.specs.Lines.{three, cornerOn, lowerLine, upperLine, sign}
 use Rattle.lines.specs.declared.Params.{Params}
 use Rattle.lines.specs.Parameters.{carried, signsOf}
 use Rattle.edges.specs.declared.Order.{Order}
@@ -74,20 +73,6 @@ module _ (tests : ℕ → Test) where
       (cond (y && w) (ordered (false ∷ yw .first ∷ false ∷ []) (yw .fine))
       (cond (x && w) (ordered (false ∷ false ∷ xw .first ∷ []) (xw .fine))
       (ordered (false ∷ false ∷ false ∷ []) true)))
-
--- of the parameters of several vertices those of vertex i
-abbrev pub paramsAt : List Params → ℕ → Params
-paramsAt ps i = getD ps i (record { x = nan; y = nan; w = nan })
-
--- along U's edge e, by the parameters and the signs of U's vertices, from its lower end to its higher one
-unfoldable pub orderOn : List Params → List (List Bool) → ℕ → Order
-orderOn ps ss e =
-    let s = getD ss (lowerEnd e) [] in
-    orderBy (tested (paramsAt ps (lowerEnd e)) (paramsAt ps (higherEnd e)) s) s (getD ss (higherEnd e) [])
-
--- along all three
-abbrev pub ordersOn : List Params → List (List Bool) → List Order
-ordersOn ps ss = orderOn ps ss 0 ∷ orderOn ps ss 1 ∷ orderOn ps ss 2 ∷ []
 
 -- ---- the same, read off an order of the rules
 -- a stands before b in the order, and both stand there

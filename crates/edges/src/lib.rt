@@ -6,7 +6,7 @@ ghost use Prim.Native.Nat.{_<_};
 ghost use lib.Ieee.{le};
 ghost use Rattle.floats.specs.Finite.{nought};
 ghost use Rattle.lines.specs.Lines.{lowerEnd, higherEnd};
-ghost use Rattle.edges.specs.Code.{tested, seenFirst, inOrder, aroundBy, threeBy, twoBy, orderBy, orderOn, ordersOn};
+ghost use Rattle.edges.specs.Code.{tested, seenFirst, inOrder, aroundBy, threeBy, twoBy, orderBy};
 
 // By V's corners: whether the corner's lower line is met before its upper one, false where the edge does not cross both. And whether all
 // pair tests that were computed are finite.
@@ -148,7 +148,7 @@ fn two_lines(p: lines::Params, q: lines::Params, s: [bool; 3], k: usize, c: usiz
 }
 
 // The order along an edge, seen from its lower vertex.
-fn order_of(p: lines::Params, q: lines::Params, s: [bool; 3], t: [bool; 3]) -> Order
+pub fn order_of(p: lines::Params, q: lines::Params, s: [bool; 3], t: [bool; 3]) -> Order
     ensures { λ r. ⌜ r ≡ orderBy (tested p q s) s t ⌝ }
 {
     let x = s[0] != t[0];
@@ -200,24 +200,4 @@ pub fn higher_end(e: usize) -> usize
     let i = lines::end_of(e, 0);
     let j = lines::end_of(e, 1);
     if i < j { j } else { i }
-}
-
-// The order along U's edge e, by the parameters and the signs of U's vertices, seen from its lower end.
-fn order_on(params: [lines::Params; 3], signs: [[bool; 3]; 3], e: usize) -> Order
-    ensures { λ r. ⌜ r ≡ orderOn params signs e ⌝ }
-{
-    let i = lower_end(e);
-    let j = higher_end(e);
-    order_of(params[i], params[j], signs[i], signs[j])
-}
-
-// The orders along U's three edges.
-pub fn orders_of(params: [lines::Params; 3], signs: [[bool; 3]; 3]) -> [Order; 3]
-    ensures { λ r. ⌜ r ≡ ordersOn params signs ⌝ }
-{
-    [
-        order_on(params, signs, 0),
-        order_on(params, signs, 1),
-        order_on(params, signs, 2),
-    ]
 }

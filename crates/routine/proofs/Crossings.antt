@@ -20,13 +20,12 @@ use Rattle.lines.specs.declared.Params.{Params}
 use Rattle.lines.specs.Parameters.{parameter, carried}
 use Rattle.lines.proofs.Tables.{small, entry-below}
 use Rattle.ring.specs.Places.{Place, vertex, corner, crossing}
-use Rattle.edges.specs.Code.{paramsAt}
 use Rattle.crossings.specs.declared.Spot.{Spot}
 use Rattle.triangles.specs.Pair.{vertexOf, paramsOf, carriedBy, vertexSigns, signsBy}
 use Rattle.triangles.specs.Positions.{fraction, between, crossingAt, positionOf, valuesOfCorners}
 use Rattle.triangles.specs.Refusals.{positionsWay}
 use Rattle.crossings.specs.Crossing.{spotOn}
-use Rattle.routine.specs.Code.{crossSpot, spotOf}
+use Rattle.routine.specs.Code.{paramsAt, crossSpot, spotOf}
 
 -- ---- one operation's way
 fine-op : (a b : Way) (v : Float) → fine (step v (a .way ++ b .way)) ≡ ((fine a && fine b) && finite v)

@@ -1,7 +1,7 @@
 -- An answer that keeps the promise, in a room of noughts, gives the definition's decision; so do two shapes that were made ready. Assumes nothing.
 use mathlib.Core.Path.{_≡_, refl, sym, ap, _∙_}
 use mathlib.Core.Bool.{Bool, true, false, cond}
-use mathlib.Core.List.{List, [], _∷_}
+use mathlib.Core.List.{List}
 use native.Mathlib.Omega.{arith}
 use lib.Ieee.{Float}
 use Rattle.floats.specs.declared.Position.{Position}
@@ -41,7 +41,7 @@ module _ (u v : Shape) where
   isBeyond = beyondBy (v .cross) (u .cross) (by (first u)) (by (second u)) (by (third u))
 
   abbrev rest : Decision
-  rest = decided (settledBy (twelve u v) enough (v .cross) (u .cross) (by (first u) ∷ by (second u) ∷ by (third u) ∷ []) .answer)
+  rest = decided (settledBy (twelve u v) enough (v .cross) (u .cross) (by (first u)) (by (second u)) (by (third u)) .answer)
 
   module _ {p q r : Params} (hp : p ≡ by (first u)) (hq : q ≡ by (second u)) (hr : r ≡ by (third u)) {b : Bool} (hb : b ≡ beyondBy (v .cross) (u .cross) p q r) where
     beyond-is : isBeyond ≡ b
@@ -51,7 +51,7 @@ module _ (u v : Shape) where
     unfolding decisionBy
     decides-apart h = taken rest (beyond-is ∙ h) refl
 
-    pub decides-by : {a : Answer} {after : List Float} {result : Decision} → b ≡ false → Leaves (settledBy (twelve u v) enough (v .cross) (u .cross) (p ∷ q ∷ r ∷ [])) a after → result ≡ decided a → result ≡ decisionBy u v
+    pub decides-by : {a : Answer} {after : List Float} {result : Decision} → b ≡ false → Leaves (settledBy (twelve u v) enough (v .cross) (u .cross) p q r) a after → result ≡ decided a → result ≡ decisionBy u v
     unfolding decisionBy
     decides-by h l e = left Apart (beyond-is ∙ h) (e ∙ (ap decided (l .result-is) ∙ rw (hp, hq, hr) refl))
 

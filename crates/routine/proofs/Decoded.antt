@@ -35,10 +35,10 @@ module _ (l : List Float) (ps : List Params) (ss : List (List Bool)) (k : ℕ) w
   unfolding spotOf
   decoded-crossing h = ap (spotOf l ps ss) (crossing-is h)
 
-  -- edge, line, ends and sign as they are looked up by the number
-  pub looked-up : (e a i j : ℕ) {r : Spot} → e ≡ edgeIn k → a ≡ lineIn k → i ≡ start e → j ≡ finish e → r ≡ spotFrom l ps k a i j (signsAt ss i a) → r ≡ spotOf l ps ss (placeOfCode k)
+  -- start and sign as they are looked up by the number
+  pub looked-up : (e a i : ℕ) {r : Spot} → e ≡ edgeIn k → a ≡ lineIn k → i ≡ start e → r ≡ spotFrom l ps k i (signsAt ss i a) → r ≡ spotOf l ps ss (placeOfCode k)
   unfolding spotFrom
-  looked-up e a i j he ha hi hj hr = hr ∙ (rw (hi, hj, he, ha) refl ∙ go (ltb k 6) refl)
+  looked-up e a i he ha hi hr = hr ∙ (rw (hi, he, ha) refl ∙ go (ltb k 6) refl)
     where
       go : (b : Bool) → ltb k 6 ≡ b → cond b (copied (positionAt l k)) crossed ≡ spotOf l ps ss (placeOfCode k)
       go true t = decoded-position (ltb-true k 6 t)

@@ -15,7 +15,7 @@ use Rattle.floats.specs.declared.Position.{Position}
 use Rattle.lines.specs.declared.Params.{Params}
 use Rattle.lines.specs.Parameters.{parametersBy, valuesOf, signsOf}
 use Rattle.edges.specs.declared.Order.{Order}
-use Rattle.edges.specs.Code.{tested, orderBy, orderOn}
+use Rattle.edges.specs.Code.{tested, orderBy}
 use Rattle.ring.specs.Places.{Place, fifteen}
 use Rattle.ring.specs.Demand.{NoneOrThreeToSix}
 use Rattle.walk.specs.declared.Ring.{Ring}
@@ -229,23 +229,17 @@ module _ (l room : List Float) (p q r : Params) (s t u : List Bool) (known : (le
   signs-named : s ∷ t ∷ u ∷ [] ≡ vertexSigns l
   signs-named = rw (hs, ht, hu, named .0, named .1, named .2) (sym (signs-are l))
 
-  abbrev on : ℕ → Order
-  on e = orderOn (p ∷ q ∷ r ∷ []) (s ∷ t ∷ u ∷ []) e
-
-  module _ (a b c : Order) (ha : a ≡ on 0) (hb : b ≡ on 1) (hc : c ≡ on 2) where
+  module _ (a b c : Order) (ha : a ≡ orderBy (tested p q s) s t) (hb : b ≡ orderBy (tested q r t) t u) (hc : c ≡ orderBy (tested p r s) s u) where
     abbrev at-edge : ℕ → ℕ → Order
     at-edge i j = orderBy (tested (paramsOf l i) (paramsOf l j) (signsOf (paramsOf l i))) (signsOf (paramsOf l i)) (signsOf (paramsOf l j))
 
     a-is : a ≡ at-edge 0 1
-    unfolding orderOn
     a-is = ha ∙ rw (hs, ht, named .0, named .1) refl
 
     b-is : b ≡ at-edge 1 2
-    unfolding orderOn
     b-is = hb ∙ rw (ht, hu, named .1, named .2) refl
 
     c-is : c ≡ at-edge 0 2
-    unfolding orderOn
     c-is = hc ∙ rw (hs, hu, named .0, named .2) refl
 
     all-fine-is : (a .fine && (b .fine && c .fine)) ≡ all finite (wayOf wayToPairTest l)

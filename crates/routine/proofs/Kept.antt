@@ -14,7 +14,7 @@ use Rattle.floats.specs.Finite.{finite}
 use Rattle.lines.specs.declared.Params.{Params}
 use Rattle.lines.specs.Parameters.{signsOf}
 use Rattle.edges.specs.declared.Order.{Order}
-use Rattle.edges.specs.Code.{orderOn}
+use Rattle.edges.specs.Code.{tested, orderBy}
 use Rattle.walk.specs.declared.PlaceCode.{PlaceCode}
 use Rattle.walk.specs.declared.Ring.{Ring}
 use Rattle.walk.specs.Code.{befores, flagsAndRing}
@@ -72,26 +72,35 @@ module _ (l room : List Float) (p q r : Params) (known : (length l ≡ 12) × (1
   abbrev ss : List (List Bool)
   ss = signsOf p ∷ signsOf q ∷ signsOf r ∷ []
 
-  abbrev on : ℕ → Order
-  on e = orderOn ps ss e
+  abbrev between : Params → Params → Order
+  between x y = orderBy (tested x y (signsOf x)) (signsOf x) (signsOf y)
+
+  abbrev a : Order
+  a = between p q
+
+  abbrev b : Order
+  b = between q r
+
+  abbrev c : Order
+  c = between p r
 
   abbrev bs : List (List Bool)
-  bs = on 0 .before ∷ on 1 .before ∷ on 2 .before ∷ []
+  bs = a .before ∷ b .before ∷ c .before ∷ []
 
-  ordered-keeps : Keeps l room (orderedBy l room ps)
+  ordered-keeps : Keeps l room (orderedBy l room p q r)
   unfolding orderedBy
-  ordered-keeps = go (on 0 .fine && (on 1 .fine && on 2 .fine)) refl
+  ordered-keeps = go (a .fine && (b .fine && c .fine)) refl
     where
-      go : (b : Bool) → (on 0 .fine && (on 1 .fine && on 2 .fine)) ≡ b → Keeps l room (cond b (placedAs l room ps ss (flagsAndRing ss bs)) (outcomeRefused 4 room))
-      go true h = placed-keeps l room ps ss bs (tests-known l room p q r (signsOf p) (signsOf q) (signsOf r) known named refl refl refl (on 0) (on 1) (on 2) refl refl refl h) (all-named l room p q r (signsOf p) (signsOf q) (signsOf r) known named refl refl refl (on 0) (on 1) (on 2) refl refl refl)
-      go false h = tests-refusal-kept l room p q r (signsOf p) (signsOf q) (signsOf r) known named refl refl refl (on 0) (on 1) (on 2) refl refl refl h refl
+      go : (f : Bool) → (a .fine && (b .fine && c .fine)) ≡ f → Keeps l room (cond f (placedAs l room ps ss (flagsAndRing ss bs)) (outcomeRefused 4 room))
+      go true h = placed-keeps l room ps ss bs (tests-known l room p q r (signsOf p) (signsOf q) (signsOf r) known named refl refl refl a b c refl refl refl h) (all-named l room p q r (signsOf p) (signsOf q) (signsOf r) known named refl refl refl a b c refl refl refl)
+      go false h = tests-refusal-kept l room p q r (signsOf p) (signsOf q) (signsOf r) known named refl refl refl a b c refl refl refl h refl
 
 -- ---- from d, e and the parameters on
-pub settled-keeps : (l room : List Float) (d e : Float) (p q r : Params) → length l ≡ 12 → 12 ≤ length room → (d ≡ dOfV l .value) × (e ≡ eOfU l .value) × (p ≡ paramsOf l 0) × (q ≡ paramsOf l 1) × (r ≡ paramsOf l 2) → Keeps l room (settledBy l room d e (p ∷ q ∷ r ∷ []))
+pub settled-keeps : (l room : List Float) (d e : Float) (p q r : Params) → length l ≡ 12 → 12 ≤ length room → (d ≡ dOfV l .value) × (e ≡ eOfU l .value) × (p ≡ paramsOf l 0) × (q ≡ paramsOf l 1) × (r ≡ paramsOf l 2) → Keeps l room (settledBy l room d e p q r)
 unfolding settledBy
 settled-keeps l room d e p q r n m named = go (eqb (numberBy l d e p q r) 0) refl
   where
-    go : (b : Bool) → eqb (numberBy l d e p q r) 0 ≡ b → Keeps l room (cond b (orderedBy l room (p ∷ q ∷ r ∷ [])) (outcomeRefused (numberBy l d e p q r) room))
+    go : (b : Bool) → eqb (numberBy l d e p q r) 0 ≡ b → Keeps l room (cond b (orderedBy l room p q r) (outcomeRefused (numberBy l d e p q r) room))
     go true h = ordered-keeps l room p q r (n, m, sym (number-is l d e p q r named n refl) ∙ eqb-true (numberBy l d e p q r) 0 h) (named .2, named .3, named .4)
     go false h = front-kept l room refl n m (number-is l d e p q r named n refl) (eqb-false (numberBy l d e p q r) 0 h)
 

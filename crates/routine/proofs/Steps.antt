@@ -6,7 +6,7 @@ use Prim.Native.Nat.{ℕ, zero, suc, _+_, _-_, _*_, _<_, _≤_}
 use native.Mathlib.Omega.{arith}
 use lib.Dec.{eqb}
 use lib.Ieee.{Float, nan, binary64, add}
-use lib.ListN.{getD, take}
+use lib.ListN.{take}
 use lib.Seq.{getD-take}
 use borrow.Author.Tests.{eq-eqb, ne-eqb}
 use Rattle.floats.specs.Finite.{finite}
@@ -17,7 +17,7 @@ use Rattle.floats.proofs.Lists.{taken, left}
 use Rattle.lines.specs.declared.Params.{Params}
 use Rattle.lines.specs.Parameters.{signsOf}
 use Rattle.edges.specs.declared.Order.{Order}
-use Rattle.edges.specs.Code.{paramsAt, ordersOn}
+use Rattle.edges.specs.Code.{tested, orderBy}
 use Rattle.walk.specs.declared.Ring.{Ring}
 use Rattle.walk.specs.Code.{flagsAndRing}
 use Rattle.walk.proofs.Most.{six-at-most}
@@ -81,34 +81,31 @@ module _ (l room : List Float) (ps : List Params) (ss : List (List Bool)) (w : R
   late-leaves {answer} hw h e = subst (λ v. Leaves (placedAs l room ps ss v) answer room) hw (refusal-leaves 4 room (unfold placedAs in sym (left (answeredWith w (areaBy spots (w .n)) (written spots room)) (test-is h) refl)) e)
 
 -- ---- from the parameters on
-module _ (l room : List Float) (ps : List Params) (s t u : List Bool) (hs : s ≡ signsOf (paramsAt ps 0)) (ht : t ≡ signsOf (paramsAt ps 1)) (hu : u ≡ signsOf (paramsAt ps 2)) (os : List Order) (ho : os ≡ ordersOn ps (s ∷ t ∷ u ∷ [])) where
-  abbrev on : ℕ → Order
-  on e = getD os e (record { before = []; fine = false })
-
+module _ (l room : List Float) (p q r : Params) (s t u : List Bool) (hs : s ≡ signsOf p) (ht : t ≡ signsOf q) (hu : u ≡ signsOf r) (a b c : Order) (ha : a ≡ orderBy (tested p q s) s t) (hb : b ≡ orderBy (tested q r t) t u) (hc : c ≡ orderBy (tested p r s) s u) where
   abbrev fine : Bool
-  fine = on 0 .fine && (on 1 .fine && on 2 .fine)
+  fine = a .fine && (b .fine && c .fine)
 
   abbrev placed : Outcome
-  placed = placedAs l room ps (s ∷ t ∷ u ∷ []) (flagsAndRing (s ∷ t ∷ u ∷ []) (on 0 .before ∷ on 1 .before ∷ on 2 .before ∷ []))
+  placed = placedAs l room (p ∷ q ∷ r ∷ []) (s ∷ t ∷ u ∷ []) (flagsAndRing (s ∷ t ∷ u ∷ []) (a .before ∷ b .before ∷ c .before ∷ []))
 
-  ordered : {b : Bool} → fine ≡ b → orderedBy l room ps ≡ cond b placed (outcomeRefused 4 room)
+  ordered : {f : Bool} → fine ≡ f → orderedBy l room p q r ≡ cond f placed (outcomeRefused 4 room)
   unfolding orderedBy
-  ordered h = rw (sym h, ho, hs, ht, hu) refl
+  ordered h = rw (sym h, ha, hb, hc, hs, ht, hu) refl
 
-  pub orders-leave : {answer : Answer} {after : List Float} → fine ≡ true → Leaves placed answer after → Leaves (orderedBy l room ps) answer after
+  pub orders-leave : {answer : Answer} {after : List Float} → fine ≡ true → Leaves placed answer after → Leaves (orderedBy l room p q r) answer after
   orders-leave {answer} {after} h = subst (λ o. Leaves o answer after) (sym (ordered h))
 
-  pub tests-leave : {answer : Answer} → fine ≡ false → answer ≡ refusal 4 → Leaves (orderedBy l room ps) answer room
+  pub tests-leave : {answer : Answer} → fine ≡ false → answer ≡ refusal 4 → Leaves (orderedBy l room p q r) answer room
   tests-leave h = refusal-leaves 4 room (ordered h)
 
 -- ---- from d, e and the parameters on
-module _ (l room : List Float) (d e : Float) (ps : List Params) (k : ℕ) (hk : k ≡ numberBy l d e (paramsAt ps 0) (paramsAt ps 1) (paramsAt ps 2)) where
-  settled : {b : Bool} → eqb k 0 ≡ b → settledBy l room d e ps ≡ cond b (orderedBy l room ps) (outcomeRefused k room)
+module _ (l room : List Float) (d e : Float) (p q r : Params) (k : ℕ) (hk : k ≡ numberBy l d e p q r) where
+  settled : (zero? : Bool) → eqb k 0 ≡ zero? → settledBy l room d e p q r ≡ cond zero? (orderedBy l room p q r) (outcomeRefused k room)
   unfolding settledBy
-  settled h = rw (sym h, hk) refl
+  settled z h = rw (sym h, hk) refl
 
-  pub rest-leaves : {answer : Answer} {after : List Float} → k ≡ 0 → Leaves (orderedBy l room ps) answer after → Leaves (settledBy l room d e ps) answer after
-  rest-leaves {answer} {after} z = subst (λ o. Leaves o answer after) (sym (settled (eq-eqb k 0 z)))
+  pub rest-leaves : {answer : Answer} {after : List Float} → k ≡ 0 → Leaves (orderedBy l room p q r) answer after → Leaves (settledBy l room d e p q r) answer after
+  rest-leaves {answer} {after} z = subst (λ o. Leaves o answer after) (sym (settled true (eq-eqb k 0 z)))
 
-  pub row-leaves : {answer : Answer} → (k ≡ 0 → ⊥) → answer ≡ refusal k → Leaves (settledBy l room d e ps) answer room
-  row-leaves z = refusal-leaves k room (settled (ne-eqb k 0 z))
+  pub row-leaves : {answer : Answer} → (k ≡ 0 → ⊥) → answer ≡ refusal k → Leaves (settledBy l room d e p q r) answer room
+  row-leaves z = refusal-leaves k room (settled false (ne-eqb k 0 z))

@@ -14,7 +14,7 @@ use Rattle.lines.specs.Lines.{signsAt, start, finish}
 use Rattle.lines.specs.declared.Params.{Params}
 use Rattle.lines.specs.Parameters.{parameter, carried, paramsBy, signsOf}
 use Rattle.ring.specs.Places.{Place, vertex, corner, crossing}
-use Rattle.edges.specs.Code.{paramsAt, orderOn}
+use Rattle.edges.specs.Code.{tested, orderBy}
 use Rattle.walk.specs.declared.PlaceCode.{PlaceCode}
 use Rattle.walk.specs.declared.Ring.{Ring}
 use Rattle.walk.specs.Code.{coded, placeOfCode, flagsAndRing}
@@ -44,6 +44,9 @@ frontOf l = firstOf (coordinates ∷ wayToD ∷ dZero ∷ wayToE ∷ eZero ∷ w
 abbrev pub copied : Position → Spot
 copied p = record { x = p .x; y = p .y; fine = true }
 
+abbrev pub paramsAt : List Params → ℕ → Params
+paramsAt ps i = getD ps i (record { x = nan; y = nan; w = nan })
+
 unfoldable pub crossSpot : List Float → List Params → ℕ → ℕ → ℕ → Spot
 crossSpot l ps a i j = spotOn (parameter (carried (paramsAt ps i)) a .value) (parameter (carried (paramsAt ps j)) a .value) (positionAt l i) (positionAt l j)
 
@@ -64,9 +67,12 @@ edgeIn code = (code - 6) / 3
 abbrev pub lineIn : ℕ → ℕ
 lineIn code = (code - 6) % 3
 
--- by a place's number: below 6 it is a position of the input, else the crossing of line a on the edge from i to j, plus being i's sign on a
-unfoldable pub spotFrom : List Float → List Params → ℕ → ℕ → ℕ → ℕ → Bool → Spot
-spotFrom l ps code a i j plus = cond (ltb code 6) (copied (positionAt l code)) (cond plus (crossSpot l ps a i j) (crossSpot l ps a j i))
+-- by a place's number: below 6 it is a position of the input, else a crossing on the edge that starts at i, plus being i's sign on the crossing's line
+unfoldable pub spotFrom : List Float → List Params → ℕ → ℕ → Bool → Spot
+spotFrom l ps code i plus =
+    let a = lineIn code in
+    let j = finish (edgeIn code) in
+    cond (ltb code 6) (copied (positionAt l code)) (cond plus (crossSpot l ps a i j) (crossSpot l ps a j i))
 
 -- the values of the first n spots, and whether all of them are fine
 unfoldable pub spotsTo : List Float → List Params → List (List Bool) → List PlaceCode → ℕ → List Float
@@ -113,17 +119,20 @@ placedAs l room ps ss w =
     cond (fineTo l ps ss (w .places) (w .n) && finite area) (answeredWith w area (written spots room)) (outcomeRefused 4 room)
 
 -- from the parameters on: the orders along U's edges, refused where a pair test that was computed is not finite
-unfoldable pub orderedBy : List Float → List Float → List Params → Outcome
-orderedBy l room ps =
-    let ss = signsOf (paramsAt ps 0) ∷ signsOf (paramsAt ps 1) ∷ signsOf (paramsAt ps 2) ∷ [] in
-    let a = orderOn ps ss 0 in
-    let b = orderOn ps ss 1 in
-    let c = orderOn ps ss 2 in
-    cond (a .fine && (b .fine && c .fine)) (placedAs l room ps ss (flagsAndRing ss (a .before ∷ b .before ∷ c .before ∷ []))) (outcomeRefused 4 room)
+unfoldable pub orderedBy : List Float → List Float → Params → Params → Params → Outcome
+orderedBy l room p q r =
+    let s = signsOf p in
+    let t = signsOf q in
+    let u = signsOf r in
+    let a = orderBy (tested p q s) s t in
+    let b = orderBy (tested q r t) t u in
+    let c = orderBy (tested p r s) s u in
+    let ss = s ∷ t ∷ u ∷ [] in
+    cond (a .fine && (b .fine && c .fine)) (placedAs l room (p ∷ q ∷ r ∷ []) ss (flagsAndRing ss (a .before ∷ b .before ∷ c .before ∷ []))) (outcomeRefused 4 room)
 
 -- from d, e and the parameters on: the rows before the pair tests first
-unfoldable pub settledBy : List Float → List Float → Float → Float → List Params → Outcome
-settledBy l room d e ps = let k = numberBy l d e (paramsAt ps 0) (paramsAt ps 1) (paramsAt ps 2) in cond (eqb k 0) (orderedBy l room ps) (outcomeRefused k room)
+unfoldable pub settledBy : List Float → List Float → Float → Float → Params → Params → Params → Outcome
+settledBy l room d e p q r = let k = numberBy l d e p q r in cond (eqb k 0) (orderedBy l room p q r) (outcomeRefused k room)
 
 -- ---- of two triangles made ready, whatever their eleven numbers are: the sides and the crosses are taken as they stand
 unfoldable pub decisionBy : Shape → Shape → Decision
@@ -132,7 +141,7 @@ decisionBy u v =
     let p = by (first u) in
     let q = by (second u) in
     let r = by (third u) in
-    cond (beyondBy (v .cross) (u .cross) p q r) Apart (decided (settledBy (twelve u v) enough (v .cross) (u .cross) (p ∷ q ∷ r ∷ []) .answer))
+    cond (beyondBy (v .cross) (u .cross) p q r) Apart (decided (settledBy (twelve u v) enough (v .cross) (u .cross) p q r .answer))
 
 -- where each was made ready from its own vertices, it is the decision of their twelve values
 abbrev pub DecidedOfMade : Type 0

@@ -75,23 +75,27 @@ fn placed(
 }
 
 // From the parameters on: the orders along U's edges are decided, all three.
-fn ordered(values: &[f64], room: &mut [f64], params: [lines::Params; 3]) -> triangles::Answer
+fn ordered(
+    values: &[f64],
+    room: &mut [f64],
+    p: lines::Params,
+    q: lines::Params,
+    r: lines::Params,
+) -> triangles::Answer
     requires { ⌜ (length (now values) ≡ 12) × (12 ≤ length (now room)) ⌝ }
-    ensures { λ r. ⌜ Leaves (orderedBy (now (values .entry)) (now (room .entry)) params) r (now (room .exit)) ⌝ }
+    ensures { λ a. ⌜ Leaves (orderedBy (now (values .entry)) (now (room .entry)) p q r) a (now (room .exit)) ⌝ }
 {
-    let p = params[0];
-    let q = params[1];
-    let r = params[2];
-    let signs = [lines::signs_of(p), lines::signs_of(q), lines::signs_of(r)];
-    let orders = edges::orders_of(params, signs);
-    let a = orders[0];
-    let b = orders[1];
-    let c = orders[2];
+    let s = lines::signs_of(p);
+    let t = lines::signs_of(q);
+    let u = lines::signs_of(r);
+    let a = edges::order_of(p, q, s, t);
+    let b = edges::order_of(q, r, t, u);
+    let c = edges::order_of(p, r, s, u);
     if a.fine & (b.fine & c.fine) {
         let x = a.before;
         let y = b.before;
         let z = c.before;
-        return placed(values, room, params, signs, [x, y, z]);
+        return placed(values, room, [p, q, r], [s, t, u], [x, y, z]);
     }
     refused(4)
 }
@@ -102,14 +106,16 @@ fn settled(
     room: &mut [f64],
     d: f64,
     e: f64,
-    params: [lines::Params; 3],
+    p: lines::Params,
+    q: lines::Params,
+    r: lines::Params,
 ) -> triangles::Answer
     requires { ⌜ (length (now values) ≡ 12) × (12 ≤ length (now room)) ⌝ }
-    ensures { λ r. ⌜ Leaves (settledBy (now (values .entry)) (now (room .entry)) d e params) r (now (room .exit)) ⌝ }
+    ensures { λ a. ⌜ Leaves (settledBy (now (values .entry)) (now (room .entry)) d e p q r) a (now (room .exit)) ⌝ }
 {
-    let k = front::number_of(values, d, e, params[0], params[1], params[2]);
+    let k = front::number_of(values, d, e, p, q, r);
     if k == 0 {
-        return ordered(values, room, params);
+        return ordered(values, room, p, q, r);
     }
     refused(k)
 }
@@ -138,7 +144,7 @@ pub fn intersect(values: &[f64], room: &mut [f64]) -> triangles::Answer
     if front::beyond(d, e, p, q, r) {
         return refused(0);
     }
-    settled(values, room, d, e, [p, q, r])
+    settled(values, room, d, e, p, q, r)
 }
 
 // Two triangles, U0x, U0y, .. V2y: what is decided of them.
@@ -180,5 +186,5 @@ pub fn decision_of(u: shapes::Shape, v: shapes::Shape) -> triangles::Decision
         v.y2,
     ];
     let mut room = [0.0; 12];
-    decisions::decision_from(settled(&values, &mut room, d, e, [p, q, r]))
+    decisions::decision_from(settled(&values, &mut room, d, e, p, q, r))
 }

@@ -64,18 +64,16 @@ fn line_in(place: walk::PlaceCode) -> usize
     (code - 6) % 3
 }
 
-// The position of a place of the ring. Of a crossing a is the line, i and j are the start and the finish of the edge, and `plus` is the sign of i on a.
+// The position of a place of the ring. Of a crossing i is the start of its edge, and `plus` the sign of i on its line.
 fn spot_of(
     values: &[f64],
     params: [lines::Params; 3],
     place: walk::PlaceCode,
-    a: usize,
     i: usize,
-    j: usize,
     plus: bool,
 ) -> crossings::Spot
-    requires { ⌜ (length (now values) ≡ 12) × (i < 3) × (j < 3) ⌝ }
-    ensures { λ r. ⌜ r ≡ spotFrom (now (values .entry)) params (place .code) a i j plus ⌝ }
+    requires { ⌜ (length (now values) ≡ 12) × (i < 3) ⌝ }
+    ensures { λ r. ⌜ r ≡ spotFrom (now (values .entry)) params (place .code) i plus ⌝ }
 {
     let code = place.code as usize;
     if code < 6 {
@@ -86,6 +84,8 @@ fn spot_of(
             fine: true,
         };
     }
+    let j = lines::end_of(edge_in(place), 1);
+    let a = line_in(place);
     if plus {
         return cross_spot(values, params, a, i, j);
     }
@@ -108,11 +108,9 @@ pub(crate) fn corners_of(
     let mut i = 0;
     while i < n {
         let place = places[i];
-        let e = edge_in(place);
+        let start = lines::end_of(edge_in(place), 0);
         let a = line_in(place);
-        let start = lines::end_of(e, 0);
-        let finish = lines::end_of(e, 1);
-        let spot = spot_of(values, params, place, a, start, finish, signs[start][a]);
+        let spot = spot_of(values, params, place, start, signs[start][a]);
         xy[2 * i] = spot.x;
         xy[2 * i + 1] = spot.y;
         fine = fine & spot.fine;

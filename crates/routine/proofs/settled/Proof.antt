@@ -5,15 +5,6 @@ use borrow.Author.Needs.{needs}
 use Rattle.routine.proofs.settled.Statement.{statement}
 use Rattle.routine.proofs.settled.Tie as tie
 
-array-copy-out-number-of : tie.Need-array-copy-out-number-of
-array-copy-out-number-of c = search needs
-
-array-copy-out-number-of-2 : tie.Need-array-copy-out-number-of-2
-array-copy-out-number-of-2 c = search needs
-
-array-copy-out-number-of-3 : tie.Need-array-copy-out-number-of-3
-array-copy-out-number-of-3 c = search needs
-
 number-of-requires : tie.Need-number-of-requires
 number-of-requires c κs = search needs
 
@@ -33,11 +24,8 @@ returns c =
     let b6 = b5 .before in
     let b7 = b6 .before in
     let b8 = b7 .before in
-    let b9 = b8 .before in
-    let b10 = b9 .before in
-    let b11 = b10 .before in
-    let g = b11 .args in
-    rest-leaves (now (g .values)) (now (g .room)) (g .d) (g .e) (g .t5) _ (b5 .number-of .ensures) (b4 .if1 .taken) (b2 .ordered .ensures)
+    let g = b8 .args in
+    rest-leaves (now (g .values)) (now (g .room)) (g .d) (g .e) (g .p) (g .q) (g .r) _ (b5 .number-of .ensures) (b4 .if1 .taken) (b2 .ordered .ensures)
 
 refused-requires : tie.Need-refused-requires
 refused-requires c κs = search needs
@@ -49,22 +37,10 @@ returns-2 c =
     let b3 = b2 .before in
     let b4 = b3 .before in
     let b5 = b4 .before in
-    let b6 = b5 .before in
-    let b7 = b6 .before in
-    let b8 = b7 .before in
-    let g = b8 .args in
-    row-leaves (now (g .values)) (now (g .room)) (g .d) (g .e) (g .t5) _ (b2 .number-of .ensures) (b1 .if1 .left) (c .refused .ensures)
+    let g = b5 .args in
+    row-leaves (now (g .values)) (now (g .room)) (g .d) (g .e) (g .p) (g .q) (g .r) _ (b2 .number-of .ensures) (b1 .if1 .left) (c .refused .ensures)
 
 pub settled-spec : {M : Type 1} → statement M
 settled-spec =
     tie.close
-    (tie.spec
-    array-copy-out-number-of
-    array-copy-out-number-of-2
-    array-copy-out-number-of-3
-    number-of-requires
-    ordered-requires
-    same-length
-    returns
-    refused-requires
-    returns-2)
+    (tie.spec number-of-requires ordered-requires same-length returns refused-requires returns-2)

@@ -27,14 +27,11 @@ array-copy-out-place c = search needs
 edge-in-requires : tie.Need-edge-in-requires Inv-loop μ-loop
 edge-in-requires c κs = search needs
 
-line-in-requires : tie.Need-line-in-requires Inv-loop μ-loop
-line-in-requires c κs = search needs
-
 end-of-requires : tie.Need-end-of-requires Inv-loop μ-loop
 end-of-requires c κs = search needs
 
-end-of-requires-2 : tie.Need-end-of-requires-2 Inv-loop μ-loop
-end-of-requires-2 c κs = search needs
+line-in-requires : tie.Need-line-in-requires Inv-loop μ-loop
+line-in-requires c κs = search needs
 
 mul-spot-of : tie.Need-mul-spot-of Inv-loop μ-loop
 mul-spot-of c = search needs
@@ -81,15 +78,14 @@ loop-again c =
     let b3 = b1 .before .before in
     let b4 = b3 .before in
     let b5 = b4 .before in
-    let b6 = b5 .before in
-    let b8 = b6 .before .before in
-    let b9 = b8 .before in
-    let b11 = b9 .before .before in
-    let g = b11 .args in
-    let inv = b9 .loop .inv in
-    let h = b8 .loop-test .taken in
-    let spot = looked-up _ (g .params) (g .t3) _ _ _ _ _ (b6 .edge-in .ensures) (b5 .line-in .ensures .0) (b4 .end-of .ensures .0) (b3 .end-of2 .ensures .0) (b1 .spot-of .ensures) in
-    (search needs, search needs, one-laid _ (g .params) (g .t3) (g .t4) _ _ spot _ (omega (arith, h, inv .1, b11 .pre .1)) (inv .2), one-fine _ (g .params) (g .t3) (g .t4) _ _ spot (inv .3))
+    let b7 = b5 .before .before in
+    let b8 = b7 .before in
+    let b10 = b8 .before .before in
+    let g = b10 .args in
+    let inv = b8 .loop .inv in
+    let h = b7 .loop-test .taken in
+    let spot = looked-up _ (g .params) (g .t3) _ _ _ _ (b5 .edge-in .ensures) (b3 .line-in .ensures .0) (b4 .end-of .ensures .0) (b1 .spot-of .ensures) in
+    (search needs, search needs, one-laid _ (g .params) (g .t3) (g .t4) _ _ spot _ (omega (arith, h, inv .1, b10 .pre .1)) (inv .2), one-fine _ (g .params) (g .t3) (g .t4) _ _ spot (inv .3))
 
 returns : tie.Need-returns Inv-loop μ-loop
 returns c =
@@ -107,9 +103,8 @@ corners-of-spec =
     loop-holds
     array-copy-out-place
     edge-in-requires
-    line-in-requires
     end-of-requires
-    end-of-requires-2
+    line-in-requires
     mul-spot-of
     index-1-spot-of
     index-2-spot-of

@@ -8,8 +8,7 @@ use Rattle.lines.specs.declared.Params.{Params}
 use Rattle.lines.specs.Parameters.{parameter, carried}
 use Rattle.crossings.specs.declared.Spot.{Spot}
 use Rattle.crossings.specs.Crossing.{spotOn}
-use Rattle.edges.specs.Code.{paramsAt}
-use Rattle.routine.specs.Code.{positionAt, crossSpot}
+use Rattle.routine.specs.Code.{positionAt, paramsAt, crossSpot}
 use borrow.Author.Needs.{needs}
 use Rattle.routine.proofs.spots.cross_spot.Statement.{statement}
 use Rattle.routine.proofs.spots.cross_spot.Tie as tie
