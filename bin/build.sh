@@ -28,51 +28,40 @@ crates_of() { # program
     done
 }
 
-digest() {
-    local line
-    line="$(sha256sum)" && echo "${line%% *}"
-}
-
-# Prints a digest of the contents of all that the program is built from. Times say nothing: a file may be restored with an old one.
-sources() {
+# Prints the lines of these crates, and the digest of each of their files and of the files that are named. Times say nothing: a file may be restored with an
+# old one.
+contents() { # files
     local crate
     [ ${#parts[@]} -gt 0 ] || return 1
-    {
-        for crate in "${crates[@]}"; do
-            printf '%s:%s\n' "$crate" "${needs[$crate]-}"
-        done
-        cd "$root" && find "${parts[@]}" -type f -print0 | sort -z | xargs -0 sha256sum
-    } | digest
+    for crate in "${crates[@]}"; do
+        printf '%s:%s\n' "$crate" "${needs[$crate]-}"
+    done
+    cd "$root" && find "${parts[@]}" "$@" -type f -print0 | sort -z | xargs -0 sha256sum
 }
 
 # ---- a program that is fresh
 
-# Prints what the record of a build says of the program as it stands.
-state() { # kit, sources
-    local program
-    program="$(digest <"$made")" && printf '%s\n' "kit $1" "machine $machine" "sources $2" "program $program"
-}
-
-# A build that went well leaves a record. Where there is no rt to ask for its kit, the kit is not compared.
-is_fresh() {
-    local recorded kit now
-    [ -x "$made" ] && [ -f "$record" ] && recorded="$(<"$record")" || return 1
-    kit="$(rt version 2>/dev/null)" || { kit="${recorded%%$'\n'*}" && kit="${kit#kit }"; }
-    now="$(sources)" && now="$(state "$kit" "$now")" && [ "$now" = "$recorded" ]
+# A build that went well leaves a record: kit, machine, and the contents of sources and program. Where there is no rt to ask for its kit, that is not compared.
+is_fresh() { # program
+    local kit='' recorded='' now
+    [ -x "$made" ] && [ -f "$record" ] || return 1
+    { IFS= read -r kit && IFS= read -r -d '' recorded; } <"$record" || : # there is no NUL to read to
+    now="$(rt version 2>/dev/null)" || now="${kit#kit }"
+    [ "$kit" = "kit $now" ] && now="$(contents "target/bin/$1")" && [ "machine $machine"$'\n'"$now"$'\n' = "$recorded" ]
 }
 
 # Sets `program`, the words that run it. Elsewhere than on x86-64 they are those of rt, with the kit's emulator.
 find_program() { # program
     machine="$(uname -m)" || cannot 'cannot tell the kind of this machine'
     made="$root/target/bin/$1"
-    record="$root/target/built/$1" # of what it was built, and what came of it
-    mark="$root/target/building"   # the program that is being built, since when, and of what
+    record="$root/target/built/$1"
+    mark="$root/target/building" # the program that is being built, since when, and the contents of its sources
     crates_of "$1" || cannot "cannot read $root/crates.txt"
-    if ! is_fresh; then
+    if ! is_fresh "$1"; then
         { exec 9<"$root/crates"; } 2>/dev/null || cannot "cannot read $root/crates"
         wait_for_lock
         crates_of "$1" || cannot "cannot read $root/crates.txt"
-        is_fresh || build "$1" # else whoever had the lock has built it
+        is_fresh "$1" || build "$1" # else whoever had the lock has built it
         exec 9<&-
     fi
     program=("$made")
@@ -118,16 +107,17 @@ nap() {
 }
 
 build() { # program
-    local kit before rt stamp="$root/target/stamp/$1" written="cannot write below $root/target" ended=0
+    local kit before after rt stamp="$root/target/stamp/$1" ended=0
+    local written="cannot write below $root/target" changed='the sources were changed while they were proved: start again'
     command -v rt >/dev/null || cannot "the program is not built, or of other sources, and 'rt' of the Rattle kit is not on the path"
     kit="$(rt version)" || cannot "'rt' of the Rattle kit cannot be run"
     say 'proving and building the program, which takes minutes if it is new'
     building=yes
     settle || : # a build that was killed
-    before="$(sources)" || cannot "cannot read the sources in $root/crates"
+    before="$(contents)" || cannot "cannot read the sources in $root/crates"
     # rt compares sources alone. It makes the program again, unless that is as it was when rt stamped it, which without a record only the kernel's times tell.
     [[ ! -e $record && -e $made && -e $stamp && -z "$(find "$made" -newercc "$stamp" 2>&1)" ]] || rm -f "$made" "$stamp" || cannot "$written"
-    { rm -f "$record" && mkdir -p "$root/target/built" && printf '%s %(%s)T %s\n' "$1" -1 "$before" >"$mark"; } || cannot "$written"
+    { rm -f "$record" && mkdir -p "$root/target/built" && printf '%s %(%s)T\n%s\n' "$1" -1 "$before" >"$mark"; } || cannot "$written"
     # What rt leaves in its temporary directory goes with that of this script. It runs programs there, as nobody if it is root.
     chmod 711 "$scratch"
     : >"$scratch/said" || cannot 'cannot write to the temporary directory'
@@ -145,22 +135,24 @@ build() { # program
     progress
     erase
     chmod 700 "$scratch"
-    settle || cannot 'the sources were changed while they were proved: start again'
+    settle || cannot "$changed"
     building=
     if [ "$ended" -ne 0 ]; then
         cat "$scratch/said" >&2 || :
         cannot "the program is not built: 'rt check $1' failed"
     fi
     [ -x "$made" ] || cannot "'rt check $1' made no $made"
-    { state "$kit" "$before" >"$record.new" && mv "$record.new" "$record"; } || cannot "$written"
+    { after="$(contents "target/bin/$1")" && [[ $after = "$before"$'\n'* ]]; } || cannot "$changed"
+    { printf '%s\n' "kit $kit" "machine $machine" "$after" >"$record.new" && mv "$record.new" "$record"; } || cannot "$written"
 }
 
 # Ends the build that the mark tells of. If a source was changed meanwhile, rt may have stamped one state of it and proved another: then no stamp is kept.
 settle() {
-    local built began before crate changed=1
-    { read -r built began before <"$mark" && [ -n "$before" ]; } 2>/dev/null || return 0
+    local built began before='' crate changed=1
+    { read -r built began && IFS= read -r -d '' before; } 2>/dev/null <"$mark" || [ -n "$before" ] || return 0
     crates_of "$built" || return 1
-    if [ -z "$(cd "$root" && find crates.txt "${parts[@]}" -newercm "$mark" -print -quit 2>&1)" ] && [ "$(sources)" = "$before" ]; then
+    if [ -z "$(cd "$root" && find crates.txt "${parts[@]}" -newercm "$mark" -print -quit 2>&1)" ] &&
+        [ "$(contents)"$'\n' = "$before" ]; then
         changed=0
     else
         for crate in "${crates[@]}"; do
@@ -176,10 +168,10 @@ declare -A finished=() # the crates that it has proved
 
 # Shows how far the build is that the mark tells of: on a terminal in place, elsewhere by a line for each crate that is proved.
 progress() {
-    local built began before now crate lines i under_way=''
-    { read -r built began before <"$mark" && [ -n "$before" ]; } 2>/dev/null || return 0
-    if [ "$watched" != "$built $began $before" ]; then
-        watched="$built $began $before" finished=()
+    local built began now crate lines i under_way=''
+    { read -r built began <"$mark" && [ -n "$began" ]; } 2>/dev/null || return 0
+    if [ "$watched" != "$built $began" ]; then
+        watched="$built $began" finished=()
         crates_of "$built" || return 0
     fi
     printf -v now '%(%s)T' -1

@@ -8,6 +8,7 @@ scratch="$(readlink -f "$(mktemp -d)")"
 trap 'rm -rf "$scratch"' EXIT
 export TMPDIR="$scratch/temporary"
 mkdir "$TMPDIR"
+chmod 711 "$scratch" # where rt is root, it runs programs below as nobody
 
 tried=0 wrong=0
 
