@@ -8,7 +8,7 @@ use native.Mathlib.Nat.{zero-add}
 use lib.ListN.{length, take}
 use lib.Seq.{take-all, take-length, take-append-seam}
 use Rattle.text.specs.Room.{Put}
-use Rattle.text.proofs.Room.{unique, whole-or-nothing, put-none, put-as}
+use Rattle.text.proofs.Room.{no-second-put, whole-or-nothing, put-none, put-as}
 use Rattle.listing.specs.Listing.{outputOf}
 use Rattle.layout.specs.Bytes.{Bytes}
 use Rattle.leaklist.specs.Code.{toldOf}
@@ -34,8 +34,8 @@ told-at-front file room {after} {n} bytes large p =
     record { put = put-as (s .whole) p; fits = s .fits }
 
 -- no second length and no second room
-pub unique-front : NoSecondFront
-unique-front text room a b m n p q = let u = unique ℕ room 0 text a b m n (p .put) (q .put) in (u .1, u .0)
+pub no-second-front : NoSecondFront
+no-second-front text room a b m n p q = let u = no-second-put ℕ room 0 text a b m n (p .put) (q .put) in (u .1, u .0)
 
 -- both kinds of input can be delivered
 pub deliverable : Deliverable
