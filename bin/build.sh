@@ -109,7 +109,7 @@ nap() {
 build() { # program
     local kit before after rt stamp="$root/target/stamp/$1" ended=0
     local written="cannot write below $root/target" changed='the sources were changed while they were proved: start again'
-    command -v rt >/dev/null || cannot "the program is not built, or of other sources, and 'rt' of the Rattle kit is not on the path"
+    command -v rt >/dev/null || cannot "the program is not built, or was built from other sources, and 'rt' of the Rattle kit is not on the path"
     kit="$(rt version)" || cannot "'rt' of the Rattle kit cannot be run"
     say 'proving and building the program, which takes minutes if it is new'
     building=yes

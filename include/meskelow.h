@@ -64,8 +64,8 @@ meskelow_answer meskelow_intersect(const double *values, size_t values_len, doub
  * can go wrong with that, is the caller's. */
 
 enum {
-    MESKELOW_LONGEST_FILE = 65536 /* bytes. Who reads a file into such a buffer makes it a byte longer, so that a longer file is seen
-                                   * to be too long */
+    MESKELOW_LONGEST_FILE = 65536 /* bytes. Whoever reads a file into such a buffer should make it a byte longer, so that a longer
+                                   * file is seen to be too long */
 };
 
 /* Entries are judged before 15, each for 14 and then for 16; triangles last, each for 17 and then 18. */

@@ -6,16 +6,16 @@ use lib.ListN.{length, getD, drop}
 use lib.Dec.{ltb}
 
 -- 0 to 9 and a to f; any other byte counts as 0
-unfoldable pub digit : ℕ → ℕ
-digit b = cond (ltb b 48) 0 (cond (ltb b 58) (b - 48) (cond (ltb b 97) 0 (cond (ltb b 103) (b - 87) 0)))
+unfoldable pub digitValue : ℕ → ℕ
+digitValue b = cond (ltb b 48) 0 (cond (ltb b 58) (b - 48) (cond (ltb b 97) 0 (cond (ltb b 103) (b - 87) 0)))
 
 -- the digit at a place of the text
 abbrev pub digitAt : List ℕ → ℕ → ℕ
-digitAt text i = digit (getD text i 0)
+digitAt text i = digitValue (getD text i 0)
 
 -- the number of the first i digits. Sixteen digits make 64 bits; of more the last sixteen count
 unfoldable pub numberTo : List ℕ → ℕ → ℕ
-unfolding digit
+unfolding digitValue
 numberTo text zero = 0
 numberTo text (suc i) = numberTo text i % 1152921504606846976 * 16 + digitAt text i
 
@@ -29,7 +29,7 @@ byteOf text k = digitAt text (2 * k) * 16 + digitAt text (2 * k + 1)
 
 -- m bytes from byte k on
 unfoldable pub bytesFrom : List ℕ → ℕ → ℕ → List ℕ
-unfolding digit
+unfolding digitValue
 bytesFrom text zero k = []
 bytesFrom text (suc m) k = byteOf text k ∷ bytesFrom text m (k + 1)
 

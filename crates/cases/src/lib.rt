@@ -3,7 +3,7 @@ ghost use mathlib.Core.Path.{_≡_};
 ghost use Prim.Native.Nat.{_+_, _-_, _*_, _≤_, _<_, min};
 ghost use lib.ListN.{length};
 ghost use lib.Ieee.{binary64, ofBits, toBits};
-ghost use Rattle.cases.specs.Digits.{digit as digitOf, numberOf, byteOf, fitting, filled, glyph as glyphOf, spelt, lettered};
+ghost use Rattle.cases.specs.Digits.{digitValue, numberOf, byteOf, fitting, filled, glyph as glyphOf, spelt, lettered};
 ghost use Rattle.cases.specs.Words.{until as untilOf};
 
 // What stands in the text from a place on, before the first byte `stop`; nothing where the text has ended.
@@ -26,7 +26,7 @@ pub fn until(text: &[u8], from: usize, stop: u8) -> &[u8]
 
 // The number that a digit stands for; 0 for any other byte.
 fn digit(b: u8) -> u8
-    ensures { λ r. ⌜ (r ≡ digitOf b) × (r < 16) ⌝ }
+    ensures { λ r. ⌜ (r ≡ digitValue b) × (r < 16) ⌝ }
 {
     if b < 48 {
         return 0;

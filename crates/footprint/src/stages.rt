@@ -1,4 +1,4 @@
-// The stages of a file's verdict: the trailer, the entries of the table, the triangles. An entry or a triangle is cut out before it is read: the reader then looks at no length, as it knows the part's.
+// The stages of a file's verdict: the trailer, the entries of the table, the triangles. An entry or a triangle is cut out before it is read: the part's length is then a constant, and no test of it is left in the compiled code.
 ghost use mathlib.Core.Path.{_≡_};
 ghost use Prim.Native.Nat.{_+_, _*_, _≤_, _<_};
 ghost use lib.ListN.{length};

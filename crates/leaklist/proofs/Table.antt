@@ -15,7 +15,7 @@ use Rattle.text.proofs.Room.{laid-before, laid-inside}
 use Rattle.shapes.specs.declared.Shape.{Shape}
 use Rattle.shapes.specs.Shapes.{shapeOf}
 use Rattle.layout.specs.Recordings.{f64At}
-use Rattle.leaklist.specs.Code.{elevenOf, positionAt, shapeIn, shapeFrom, Prepared}
+use Rattle.leaklist.specs.Code.{elevenOf, positionFrom, shapeIn, shapeFrom, Prepared}
 
 -- ---- shapes in the table
 shapeBy : Float → Float → Float → Float → Float → Float → Float → Float → Float → Float → Float → Shape
@@ -29,12 +29,12 @@ unfolding shapeBy
 shape-same p0 p1 p2 p3 p4 p5 p6 p7 p8 p9 p10 = fields p0 p1 p2 p3 p4 p5 p6 p7 p8 p9 p10
 
 -- a shape by its positions and sides, as they are read
-pub shape-at : (table : List Float) (k : ℕ) {p q r a b : Position} → p ≡ positionAt table (11 * k) → q ≡ positionAt table (11 * k + 2) → r ≡ positionAt table (11 * k + 4) → a ≡ positionAt table (11 * k + 6) → b ≡ positionAt table (11 * k + 8) →
+pub shape-at : (table : List Float) (k : ℕ) {p q r a b : Position} → p ≡ positionFrom table (11 * k) → q ≡ positionFrom table (11 * k + 2) → r ≡ positionFrom table (11 * k + 4) → a ≡ positionFrom table (11 * k + 6) → b ≡ positionFrom table (11 * k + 8) →
     _≡_ {A = Shape} (record { x0 = p .x; y0 = p .y; x1 = q .x; y1 = q .y; x2 = r .x; y2 = r .y; ax = a .x; ay = a .y; bx = b .x; by = b .y; cross = getD table (11 * k + 10) nan }) (shapeIn table k)
 shape-at table k hp hq hr ha hb =
     shape-same (ap (λ v. v .x) hp) (ap (λ v. v .y) hp) (ap (λ v. v .x) hq) (second 2 3 (omega arith) hq) (ap (λ v. v .x) hr) (second 4 5 (omega arith) hr) (ap (λ v. v .x) ha) (second 6 7 (omega arith) ha) (ap (λ v. v .x) hb) (second 8 9 (omega arith) hb) refl
   where
-    second : (i j : ℕ) {v : Position} → 11 * k + i + 1 ≡ 11 * k + j → v ≡ positionAt table (11 * k + i) → v .y ≡ getD table (11 * k + j) nan
+    second : (i j : ℕ) {v : Position} → 11 * k + i + 1 ≡ 11 * k + j → v ≡ positionFrom table (11 * k + i) → v .y ≡ getD table (11 * k + j) nan
     second i j e h = ap (λ v. v .y) h ∙ ap (λ n. getD table n nan) e
 
 module _ (table : List Float) (n : ℕ) (s : Shape) (fits : 11 * n + 11 ≤ length table) where

@@ -27,8 +27,8 @@ abbrev pub elevenOf : Shape → List Float
 elevenOf s = s .x0 ∷ s .y0 ∷ s .x1 ∷ s .y1 ∷ s .x2 ∷ s .y2 ∷ s .ax ∷ s .ay ∷ s .bx ∷ s .by ∷ s .cross ∷ []
 
 -- two values, from a place on, as a position or a side
-abbrev pub positionAt : List Float → ℕ → Position
-positionAt table at = record { x = getD table at nan; y = getD table (at + 1) nan }
+abbrev pub positionFrom : List Float → ℕ → Position
+positionFrom table at = record { x = getD table at nan; y = getD table (at + 1) nan }
 
 abbrev pub shapeIn : List Float → ℕ → Shape
 shapeIn table k = record {

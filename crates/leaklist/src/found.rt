@@ -114,7 +114,7 @@ pub(crate) fn gather(
     k
 }
 
-// Room for a leak of every two of 64 recordings.
+// Room for 64 times 64 leaks, more than any file has.
 pub(crate) fn no_leaks() -> [u32; 12288]
     ensures { λ r. ⌜ 12288 ≡ length r ⌝ }
 {

@@ -4,9 +4,9 @@ ghost use mathlib.Core.List.{[], _∷_};
 ghost use Prim.Native.Nat.{_+_, _*_, _≤_, _<_};
 ghost use lib.ListN.{length};
 ghost use Rattle.text.specs.Room.{Put};
-ghost use Rattle.leaklist.specs.Code.{elevenOf, positionAt, shapeIn, Prepared};
+ghost use Rattle.leaklist.specs.Code.{elevenOf, positionFrom, shapeIn, Prepared};
 
-// A value where there is room for it, from a place on; the place behind it.
+// A value, for which there is room, from a place on; the place behind it.
 fn put_value(table: &mut [f64], at: usize, v: f64) -> usize
     requires { ⌜ at + 1 ≤ length (now table) ⌝ }
     ensures { λ r. ⌜ Put (now (table .entry)) at (v ∷ []) (now (table .exit)) r ⌝ }
@@ -40,7 +40,7 @@ fn put_shape(table: &mut [f64], k: usize, s: shapes::Shape) -> usize
 
 fn position_at(table: &[f64], at: usize) -> floats::Position
     requires { ⌜ at + 2 ≤ length (now table) ⌝ }
-    ensures { λ r. ⌜ r ≡ positionAt (now (table .entry)) at ⌝ }
+    ensures { λ r. ⌜ r ≡ positionFrom (now (table .entry)) at ⌝ }
 {
     floats::Position {
         x: table[at],

@@ -27,11 +27,11 @@ pub record AtFront (text room : List ℕ) (n : ℕ) (after : List ℕ) : Type 0 
 abbrev pub NoSecondFront : Type 0
 NoSecondFront = (text room a b : List ℕ) (m n : ℕ) → AtFront text room m a → AtFront text room n b → (m ≡ n) × (a ≡ b)
 
--- what is said of the bytes that were read into the space: nothing, where a read failed
+-- what is said of the bytes that were read into the space: nothing, where the reading says that a read failed
 abbrev pub outputFor : Got → List ℕ → List ℕ
 outputFor g space = cond (isRead (g .last)) (outputOf (take (g .n) space)) []
 
--- what the reads are trusted with: the bytes in the space are the input's, from its first on, and where a read says that the input has ended, there are no more
+-- what is trusted of the reads, and of the lines that call them: the bytes in the space are the input's, from its first on, and where a read says that the input has ended, there are no more
 pub record Delivered (g : Got) (space input : List ℕ) : Type 0 where
   pub bytes : take (g .n) space ≡ take (g .n) input
   pub ended : g .last ≡ Ended → g .n ≡ length input

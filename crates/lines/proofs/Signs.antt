@@ -12,7 +12,7 @@ unfolding any
 any-append f [] ys = refl
 any-append f (x ∷ xs) ys = ap (λ b. f x || b) (any-append f xs ys) ∙ sym (or-assoc (f x) (any f xs) (any f ys))
 
--- of any signs, with the last plus lastUnseen if all others are minus, one is plus
+-- of any signs, with the last plus unseen where all others are minus, one is plus
 pub some-plus : (others : List Bool) (last : Bool) → any (λ s. s) (lastUnseen others last) ≡ true
 unfolding lastUnseen any
 some-plus others last = any-append (λ s. s) others ((not (any (λ s. s) others) || last) ∷ []) ∙ go (any (λ s. s) others) last

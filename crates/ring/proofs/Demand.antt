@@ -118,7 +118,7 @@ module _ (p q r : List Bool) (mp : List·Memᴰ p seven) (mq : List·Memᴰ q se
       let t3 = and-r C (E && (W && F)) t4 in
       let t2 = and-r E (W && F) t3 in
       record {
-        meets = meets;
+        meetsOnce = meets;
         agrees = agrees u o meets;
         size = size-is (length (ring u o)) (and-l S (C && (E && (W && F))) t);
         holds = holds-is (found u o) (ring u o) (and-l E (W && F) t3) (and-l W F t2);

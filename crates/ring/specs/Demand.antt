@@ -40,7 +40,7 @@ Closed (p ∷ r) = Linked p r p
 
 pub record Sound (u : ℕ → ℕ → Bool) (o : ℕ → List ℕ) : Type 0 where
   -- each edge's order has the lines that it crosses, each once, and no other
-  pub meets : MeetsOnce u o
+  pub meetsOnce : MeetsOnce u o
   -- each line is crossed by none or two edges of U, each crossing is on the walk, and both lines through a corner of V agree
   pub agrees : Agrees u o
   pub size : NoneOrThreeToSix (length (ring u o))

@@ -31,7 +31,7 @@ use Rattle.front.specs.Front.{beyondBy, numberBy}
 use Rattle.shapes.specs.declared.Shape.{Shape}
 use Rattle.shapes.specs.Shapes.{Made, first, second, third, sideA, sideB, twelve}
 
--- position k of six: U0, U1, U2, V0, V1, V2
+-- position k of a list of values: of the input's six, U0, U1, U2, V0, V1, V2, or of the ring's corners
 abbrev pub positionAt : List Float → ℕ → Position
 positionAt l k = record { x = getD l (2 * k) nan; y = getD l (2 * k + 1) nan }
 

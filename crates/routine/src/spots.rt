@@ -10,7 +10,7 @@ pub(crate) struct Corners {
     pub(crate) fine: bool,
 }
 
-// Position k of U0, U1, U2, V0, V1, V2.
+// Position k of the input's six, U0, U1, U2, V0, V1, V2, or of the ring's corners.
 pub(crate) fn position_at(values: &[f64], k: usize) -> floats::Position
     requires { ⌜ (length (now values) ≡ 12) × (k < 6) ⌝ }
     ensures { λ r. ⌜ r ≡ positionAt (now (values .entry)) k ⌝ }

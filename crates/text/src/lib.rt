@@ -25,7 +25,7 @@ fn digit(n: u32) -> u8
     48 + (n % 10) as u8
 }
 
-// The last k digits of n where there is room for them, from a place on; the place behind them.
+// The last k digits of n, for which there is room, from a place on; the place behind them.
 fn put_digits(room: &mut [u8], at: usize, k: usize, n: u32) -> usize
     requires { ⌜ at + k ≤ length (now room) ⌝ }
     ensures { λ r. ⌜ Put (now (room .entry)) at (digits k n) (now (room .exit)) r ⌝ }
@@ -40,7 +40,7 @@ fn put_digits(room: &mut [u8], at: usize, k: usize, n: u32) -> usize
     at + k
 }
 
-// The bytes where there is room for them, likewise.
+// Bytes, for which there is room, likewise.
 fn copy(room: &mut [u8], at: usize, bytes: &[u8]) -> usize
     requires { ⌜ at + length (now bytes) ≤ length (now room) ⌝ }
     ensures { λ r. ⌜ Put (now (room .entry)) at (now (bytes .entry)) (now (room .exit)) r ⌝ }

@@ -101,7 +101,7 @@ unfolding answered answerOf written ringOf ringPositions
 demand3 l room h =
     let q = answered-is l room (sym (number-is l room) ∙ h) in
     record {
-      meets = sound l .meets;
+      meetsOnce = sound l .meetsOnce;
       noneOrTwo = sound l .agrees .noneOrTwo;
       allFound = sound l .agrees .allFound;
       lowerSays = λ k m. rw q (lower-says l k m);

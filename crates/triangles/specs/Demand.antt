@@ -26,7 +26,7 @@ foundIn l a (crossing e b) = crossingOn (signsBy l) (ordersBy l) e b
 -- of the ring's places, an answer and the room afterwards
 pub record PairDemand3 (l : List Float) (places : List Place) (answer : Answer) (after : List Float) : Type 0 where
   -- an edge of U crosses a line exactly if its ends have different signs there: its order has that line once, and no line else
-  pub meets : MeetsOnce (signsBy l) (ordersBy l)
+  pub meetsOnce : MeetsOnce (signsBy l) (ordersBy l)
   -- each line of V is crossed by none or two edges of U, and each of these crossings is on the walk
   pub noneOrTwo : (a : ℕ) → (edgesAcross (signsBy l) a ≡ 0) ⊎ (edgesAcross (signsBy l) a ≡ 2)
   pub allFound : (a : ℕ) → length (hits (signsBy l) (ordersBy l) a) ≡ edgesAcross (signsBy l) a

@@ -24,7 +24,7 @@ struct Edge {
     beside: [bool; 3],
 }
 
-// The ring so far; the line by which V was last left, and the line by which it was first entered, 3 while there is none.
+// The ring so far; the line by which V was left and not entered again yet, and the line by which it was entered before it was ever left, 3 where there is none.
 struct Walk {
     places: [PlaceCode; 6],
     n: usize,

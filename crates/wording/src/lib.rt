@@ -8,7 +8,7 @@ ghost use Rattle.text.specs.Room.{Measured, Put};
 ghost use Rattle.listing.specs.Words.{firstLine, refusedLine};
 ghost use Rattle.wording.specs.Lines.{leakLineOf};
 
-// A word and a number where there is room for them, from a place on; the place behind them.
+// A word and a number, for which there is room, from a place on; the place behind them.
 fn put_field(room: &mut [u8], at: usize, word: &[u8], n: u32) -> usize
     requires { ⌜ at + (length (now word) + length (decimal n)) ≤ length (now room) ⌝ }
     ensures { λ r. ⌜ Put (now (room .entry)) at (now (word .entry) ++ decimal n) (now (room .exit)) r ⌝ }
@@ -24,7 +24,7 @@ pub fn line_length(test: u32, train: u32, n: u32) -> usize
     20 + text::width(test) + text::width(train) + text::width(n)
 }
 
-// A leak line where there is room for it, likewise.
+// A leak line, for which there is room, likewise.
 fn put_line_in(room: &mut [u8], at: usize, test: u32, train: u32, n: u32) -> usize
     requires { ⌜ at + length (leakLineOf test train n) ≤ length (now room) ⌝ }
     ensures { λ r. ⌜ Put (now (room .entry)) at (leakLineOf test train n) (now (room .exit)) r ⌝ }

@@ -1,4 +1,4 @@
--- Leaks as triples of numbers, one behind the other, their lines, and the list of them in a room, or refusal 7. Definitions only.
+-- Leaks as triples of numbers, one behind the other, their lines, and the list of them in a room, or refusal 7. Definitions and a statement.
 use Prim.Native.Nat.{ℕ, zero, suc, _+_, _*_, _/_}
 use mathlib.Core.Path.{_≡_}
 use mathlib.Core.Bool.{cond}
@@ -28,7 +28,7 @@ linesIn found (suc k) = linesIn found k ++ leakLine (leakAt found k)
 abbrev pub lesser : ℕ → ℕ → ℕ
 lesser a b = cond (ltb a b) a b
 
--- of k leaks those that there are numbers for, and 4,096 at most: one for each two of 64 recordings
+-- of k leaks those that there are numbers for, and 4,096 at most: 64 times 64, more than any file has
 unfoldable pub heldIn : List ℕ → ℕ → ℕ
 heldIn found k = lesser k (lesser (length found / 3) 4096)
 

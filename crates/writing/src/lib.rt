@@ -45,7 +45,7 @@ fn lines_length(found: &[u32], k: usize) -> usize
     sum
 }
 
-// The first k leak lines where there is room for them, from a place on; the place behind them.
+// The first k leak lines, for which there is room, from a place on; the place behind them.
 fn put_lines(room: &mut [u8], at: usize, found: &[u32], k: usize) -> usize
     requires { ⌜ (k ≤ 4096) × (3 * k ≤ length (now found)) × (at + length (linesIn (now found) k) ≤ length (now room)) ⌝ }
     ensures { λ r. ⌜ Put (now (room .entry)) at (linesIn (now (found .entry)) k) (now (room .exit)) r ⌝ }

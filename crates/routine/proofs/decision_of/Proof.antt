@@ -1,4 +1,4 @@
--- From two shapes come the same d, e and parameters as from their twelve values.
+-- The steps of the code are those of `decisionBy`.
 use native.Mathlib.Omega.{arith}
 use mathlib.Core.Path.{refl}
 use lib.Ieee.{ofBits}
