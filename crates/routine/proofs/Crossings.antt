@@ -25,7 +25,7 @@ use Rattle.triangles.specs.Pair.{vertexOf, paramsOf, carriedBy, vertexSigns, si
 use Rattle.triangles.specs.Positions.{fraction, between, crossingAt, positionOf, valuesOfCorners}
 use Rattle.triangles.specs.Refusals.{positionsWay}
 use Rattle.crossings.specs.Crossing.{spotOn}
-use Rattle.routine.specs.Code.{paramsAt, crossSpot, spotOf}
+use Rattle.routine.specs.Code.{paramsAt, crossSpot, crossOf, spotOf}
 
 -- ---- one operation's way
 fine-op : (a b : Way) (v : Float) → fine (step v (a .way ++ b .way)) ≡ ((fine a && fine b) && finite v)
@@ -102,7 +102,7 @@ module _ (l : List Float) where
     pub fine-way : s .fine ≡ true → FinitePoint c → (fine (c .x) && fine (c .y)) ≡ true
     pub way-fine : (fine (c .x) && fine (c .y)) ≡ true → s .fine ≡ true
 
-  crossing-stands : (a i j : ℕ) → i < 3 → j < 3 → Stands (crossSpot l params a i j) (crossingAt l a i j)
+  crossing-stands : (a i j : ℕ) → i < 3 → j < 3 → Stands (crossOf l params a i j) (crossingAt l a i j)
   unfolding crossSpot spotOn crossingAt all
   crossing-stands a i j hi hj =
       let aP = parameter (carriedBy l i) a in
@@ -130,7 +130,7 @@ module _ (l : List Float) where
   stands (corner k) = record { x = refl; y = refl; fine-way = λ m h. refl; way-fine = λ h. refl }
   stands (crossing e a) = go (signsBy l (start e) a)
     where
-      go : (b : Bool) → Stands (cond b (crossSpot l params a (start e) (finish e)) (crossSpot l params a (finish e) (start e))) (cond b (crossingAt l a (start e) (finish e)) (crossingAt l a (finish e) (start e)))
+      go : (b : Bool) → Stands (cond b (crossOf l params a (start e) (finish e)) (crossOf l params a (finish e) (start e))) (cond b (crossingAt l a (start e) (finish e)) (crossingAt l a (finish e) (start e)))
       go true = crossing-stands a (start e) (finish e) (end-below e 0) (end-below e 1)
       go false = crossing-stands a (finish e) (start e) (end-below e 1) (end-below e 0)
 

@@ -47,32 +47,34 @@ copied p = record { x = p .x; y = p .y; fine = true }
 abbrev pub paramsAt : List Params → ℕ → Params
 paramsAt ps i = getD ps i (record { x = nan; y = nan; w = nan })
 
-unfoldable pub crossSpot : List Float → List Params → ℕ → ℕ → ℕ → Spot
-crossSpot l ps a i j = spotOn (parameter (carried (paramsAt ps i)) a .value) (parameter (carried (paramsAt ps j)) a .value) (positionAt l i) (positionAt l j)
+-- the crossing of line a between vertex i, which is plus on it and has the parameters p, and vertex j, with q
+unfoldable pub crossSpot : List Float → ℕ → ℕ → ℕ → Params → Params → Spot
+crossSpot l a i j p q = spotOn (parameter (carried p) a .value) (parameter (carried q) a .value) (positionAt l i) (positionAt l j)
+
+-- the same, the parameters being looked up
+abbrev pub crossOf : List Float → List Params → ℕ → ℕ → ℕ → Spot
+crossOf l ps a i j = crossSpot l a i j (paramsAt ps i) (paramsAt ps j)
 
 -- of a place: a crossing's position is reckoned from the start of its edge, if that is plus on the crossing's line, else from the finish
 unfoldable pub spotOf : List Float → List Params → List (List Bool) → Place → Spot
 spotOf l ps ss (vertex i) = copied (positionAt l i)
 spotOf l ps ss (corner k) = copied (positionAt l (3 + k))
-spotOf l ps ss (crossing e a) = cond (signsAt ss (start e) a) (crossSpot l ps a (start e) (finish e)) (crossSpot l ps a (finish e) (start e))
+spotOf l ps ss (crossing e a) = cond (signsAt ss (start e) a) (crossOf l ps a (start e) (finish e)) (crossOf l ps a (finish e) (start e))
 
 -- the spot of the ring's place i
 abbrev pub spotAt : List Float → List Params → List (List Bool) → List PlaceCode → ℕ → Spot
 spotAt l ps ss places i = spotOf l ps ss (placeOfCode (getD places i (coded 0) .code))
 
--- the edge and the line of the crossing with a number, and 0 of a number below 6
+-- the edge of the crossing with a number, 3 of a number below 6; and its line
 abbrev pub edgeIn : ℕ → ℕ
-edgeIn code = (code - 6) / 3
+edgeIn code = cond (ltb code 6) 3 ((code - 6) / 3)
 
 abbrev pub lineIn : ℕ → ℕ
 lineIn code = (code - 6) % 3
 
--- by a place's number: below 6 it is a position of the input, else a crossing on the edge that starts at i, plus being i's sign on the crossing's line
-unfoldable pub spotFrom : List Float → List Params → ℕ → ℕ → Bool → Spot
-spotFrom l ps code i plus =
-    let a = lineIn code in
-    let j = finish (edgeIn code) in
-    cond (ltb code 6) (copied (positionAt l code)) (cond plus (crossSpot l ps a i j) (crossSpot l ps a j i))
+-- by a place's number: below 6 it is a position of the input, else the crossing of line a on the edge from i, with the parameters p, to j, with q, plus being i's sign on a
+unfoldable pub spotFrom : List Float → ℕ → ℕ → ℕ → ℕ → Params → Params → Bool → Spot
+spotFrom l code a i j p q plus = cond (ltb code 6) (copied (positionAt l code)) (cond plus (crossSpot l a i j p q) (crossSpot l a j i q p))
 
 -- the values of the first n spots, and whether all of them are fine
 unfoldable pub spotsTo : List Float → List Params → List (List Bool) → List PlaceCode → ℕ → List Float

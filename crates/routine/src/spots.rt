@@ -21,19 +21,18 @@ pub(crate) fn position_at(values: &[f64], k: usize) -> floats::Position
     }
 }
 
-// The crossing of line a between vertex i, which is plus on it, and vertex j.
+// The crossing of line a between vertex i, which is plus on it and has the parameters p, and vertex j, with q.
 fn cross_spot(
     values: &[f64],
-    params: [lines::Params; 3],
     a: usize,
     i: usize,
     j: usize,
+    p: lines::Params,
+    q: lines::Params,
 ) -> crossings::Spot
     requires { ⌜ (length (now values) ≡ 12) × (i < 3) × (j < 3) ⌝ }
-    ensures { λ r. ⌜ r ≡ crossSpot (now (values .entry)) params a i j ⌝ }
+    ensures { λ r. ⌜ r ≡ crossSpot (now (values .entry)) a i j p q ⌝ }
 {
-    let p = params[i];
-    let q = params[j];
     crossings::between(
         position_at(values, i),
         position_at(values, j),
@@ -42,18 +41,18 @@ fn cross_spot(
     )
 }
 
-// The edge of a crossing, by its place's number; 0 of any other place.
+// The edge of a crossing, by its place's number; 3 of any other place, which is no edge.
 fn edge_in(place: walk::PlaceCode) -> usize
     ensures { λ r. ⌜ r ≡ edgeIn (place .code) ⌝ }
 {
     let code = place.code as usize;
     if code < 6 {
-        return 0;
+        return 3;
     }
     (code - 6) / 3
 }
 
-// Its line, likewise.
+// Its line; 0 of any other place.
 fn line_in(place: walk::PlaceCode) -> usize
     ensures { λ r. ⌜ (r ≡ lineIn (place .code)) × (r < 3) ⌝ }
 {
@@ -64,16 +63,20 @@ fn line_in(place: walk::PlaceCode) -> usize
     (code - 6) % 3
 }
 
-// The position of a place of the ring. Of a crossing i is the start of its edge, and `plus` the sign of i on its line.
+// The position of a place of the ring. Of a crossing a is its line, i the start of its edge, with the parameters p, and j the finish, with q; `plus` is the
+// sign of i on a.
 fn spot_of(
     values: &[f64],
-    params: [lines::Params; 3],
     place: walk::PlaceCode,
+    a: usize,
     i: usize,
+    j: usize,
+    p: lines::Params,
+    q: lines::Params,
     plus: bool,
 ) -> crossings::Spot
-    requires { ⌜ (length (now values) ≡ 12) × (i < 3) ⌝ }
-    ensures { λ r. ⌜ r ≡ spotFrom (now (values .entry)) params (place .code) i plus ⌝ }
+    requires { ⌜ (length (now values) ≡ 12) × (i < 3) × (j < 3) ⌝ }
+    ensures { λ r. ⌜ r ≡ spotFrom (now (values .entry)) (place .code) a i j p q plus ⌝ }
 {
     let code = place.code as usize;
     if code < 6 {
@@ -84,12 +87,10 @@ fn spot_of(
             fine: true,
         };
     }
-    let j = lines::end_of(edge_in(place), 1);
-    let a = line_in(place);
     if plus {
-        return cross_spot(values, params, a, i, j);
+        return cross_spot(values, a, i, j, p, q);
     }
-    cross_spot(values, params, a, j, i)
+    cross_spot(values, a, j, i, q, p)
 }
 
 // The positions of the ring's first n places.
@@ -108,9 +109,13 @@ pub(crate) fn corners_of(
     let mut i = 0;
     while i < n {
         let place = places[i];
-        let start = lines::end_of(edge_in(place), 0);
+        let e = edge_in(place);
         let a = line_in(place);
-        let spot = spot_of(values, params, place, start, signs[start][a]);
+        let start = lines::end_of(e, 0);
+        let finish = lines::end_of(e, 1);
+        let p = params[start];
+        let q = params[finish];
+        let spot = spot_of(values, place, a, start, finish, p, q, signs[start][a]);
         xy[2 * i] = spot.x;
         xy[2 * i + 1] = spot.y;
         fine = fine & spot.fine;

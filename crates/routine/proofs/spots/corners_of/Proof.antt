@@ -12,10 +12,10 @@ use Rattle.routine.proofs.spots.corners_of.Statement.{statement}
 use Rattle.routine.proofs.spots.corners_of.Tie as tie
 
 abbrev Inv-loop : tie.InvT-loop
-Inv-loop values params n signs places xy₀ fine₀ i₀ xy fine i = (i ≤ n) × (length xy ≡ 12) × (take (2 * i) xy ≡ spotsTo values params signs places i) × (fine ≡ fineTo values params signs places i)
+Inv-loop values n params signs places xy₀ fine₀ i₀ xy fine i = (i ≤ n) × (length xy ≡ 12) × (take (2 * i) xy ≡ spotsTo values params signs places i) × (fine ≡ fineTo values params signs places i)
 
 abbrev μ-loop : tie.MeasureT-loop
-μ-loop values params n signs places xy₀ fine₀ i₀ xy fine i = n - i
+μ-loop values n params signs places xy₀ fine₀ i₀ xy fine i = n - i
 
 loop-holds : tie.Need-loop-holds Inv-loop μ-loop
 unfolding spotsTo fineTo
@@ -27,11 +27,26 @@ array-copy-out-place c = search needs
 edge-in-requires : tie.Need-edge-in-requires Inv-loop μ-loop
 edge-in-requires c κs = search needs
 
+line-in-requires : tie.Need-line-in-requires Inv-loop μ-loop
+line-in-requires c κs = search needs
+
 end-of-requires : tie.Need-end-of-requires Inv-loop μ-loop
 end-of-requires c κs = search needs
 
-line-in-requires : tie.Need-line-in-requires Inv-loop μ-loop
-line-in-requires c κs = search needs
+end-of-requires-2 : tie.Need-end-of-requires-2 Inv-loop μ-loop
+end-of-requires-2 c κs = search needs
+
+mul-p : tie.Need-mul-p Inv-loop μ-loop
+mul-p c = search needs
+
+array-copy-out-p : tie.Need-array-copy-out-p Inv-loop μ-loop
+array-copy-out-p c = search needs
+
+mul-q : tie.Need-mul-q Inv-loop μ-loop
+mul-q c = search needs
+
+array-copy-out-q : tie.Need-array-copy-out-q Inv-loop μ-loop
+array-copy-out-q c = search needs
 
 mul-spot-of : tie.Need-mul-spot-of Inv-loop μ-loop
 mul-spot-of c = search needs
@@ -75,24 +90,25 @@ loop-less c = search needs
 loop-again : tie.Need-loop-again Inv-loop μ-loop
 loop-again c =
     let b1 = c .before in
-    let b3 = b1 .before .before in
-    let b4 = b3 .before in
-    let b5 = b4 .before in
-    let b7 = b5 .before .before in
+    let b5 = b1 .before .before .before .before in
+    let b6 = b5 .before in
+    let b7 = b6 .before in
     let b8 = b7 .before in
     let b10 = b8 .before .before in
-    let g = b10 .args in
-    let inv = b8 .loop .inv in
-    let h = b7 .loop-test .taken in
-    let spot = looked-up _ (g .params) (g .t3) _ _ _ _ (b5 .edge-in .ensures) (b3 .line-in .ensures .0) (b4 .end-of .ensures .0) (b1 .spot-of .ensures) in
-    (search needs, search needs, one-laid _ (g .params) (g .t3) (g .t4) _ _ spot _ (omega (arith, h, inv .1, b10 .pre .1)) (inv .2), one-fine _ (g .params) (g .t3) (g .t4) _ _ spot (inv .3))
+    let b11 = b10 .before in
+    let b13 = b11 .before .before in
+    let g = b13 .args in
+    let inv = b11 .loop .inv in
+    let h = b10 .loop-test .taken in
+    let spot = looked-up _ (g .t2) (g .t3) _ _ _ _ _ (b8 .edge-in .ensures) (b7 .line-in .ensures .0) (b6 .end-of .ensures .0) (b5 .end-of2 .ensures .0) (b1 .spot-of .ensures) in
+    (search needs, search needs, one-laid _ (g .t2) (g .t3) (g .t4) _ _ spot _ (omega (arith, h, inv .1, b13 .pre .1)) (inv .2), one-fine _ (g .t2) (g .t3) (g .t4) _ _ spot (inv .3))
 
 returns : tie.Need-returns Inv-loop μ-loop
 returns c =
     let inv = c .before .loop .inv in
     let n = le-antisymm (inv .0) (c .loop-test .left) in
     let g = c .before .before .before .args in
-    (ap (λ k. take (2 * k) (c .before .loop .xy)) (sym n) ∙ (inv .2 ∙ ap (spotsTo _ (g .params) (g .t3) (g .t4)) n), inv .3 ∙ ap (fineTo _ (g .params) (g .t3) (g .t4)) n)
+    (ap (λ k. take (2 * k) (c .before .loop .xy)) (sym n) ∙ (inv .2 ∙ ap (spotsTo _ (g .t2) (g .t3) (g .t4)) n), inv .3 ∙ ap (fineTo _ (g .t2) (g .t3) (g .t4)) n)
 
 pub corners-of-spec : {M : Type 1} → statement M
 corners-of-spec =
@@ -103,8 +119,13 @@ corners-of-spec =
     loop-holds
     array-copy-out-place
     edge-in-requires
-    end-of-requires
     line-in-requires
+    end-of-requires
+    end-of-requires-2
+    mul-p
+    array-copy-out-p
+    mul-q
+    array-copy-out-q
     mul-spot-of
     index-1-spot-of
     index-2-spot-of
