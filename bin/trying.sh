@@ -70,7 +70,7 @@ tool() { # name, what it does
 tool uname 'echo x86_64'
 echo 'a kit' >"$scratch/kit"
 # rt notes its calls and all that it can read. Then it does what is said, by default what rt does: a crate is proved if it has changed, or what it needs.
-# A library is a copy of its source, and the program prints a line with the numbers of all three.
+# A library is a copy of its source, and the program prints a list whose one leak line has the numbers of all three.
 cat >"$scratch/as_rt" <<'END'
 proves() { # crate, stamps of what it needs
     echo failed >"target/log/$1.res"
@@ -90,7 +90,7 @@ proves() { # crate, stamps of what it needs
 }
 during() { :; } # crate
 links() {
-    printf '#!/bin/bash\necho leaks 1; echo "test %s train %s pairs %s"\n' \
+    printf '#!/bin/bash\necho leaks 1; echo "test %s train %s pairs %s"; echo touching 0\n' \
         "$(<crates/leaks/src/main.rt)" "$(<target/rlib/floats)" "$(<target/rlib/lines)" >target/bin/leaks
     chmod +x target/bin/leaks
 }

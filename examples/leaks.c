@@ -1,5 +1,5 @@
-/* The leak list of a footprint file. Exit status: 0 no leaks, 1 leaks, 2 the file is refused, 3 it could not be read or the list
- * not be written. */
+/* The leak list of a footprint file, and on standard error its two numbers. Exit status: 0 no leaks, though strips may touch, 1 leaks,
+ * 2 the file is refused, 3 it could not be read or the list not be written. */
 #include <inttypes.h>
 #include <stdio.h>
 
@@ -26,5 +26,8 @@ int main(int argc, char **argv)
         perror("standard output");
         return 3;
     }
-    return list.number != 0 ? 2 : list.leaks != 0;
+    if (list.number != 0)
+        return 2;
+    fprintf(stderr, "%" PRIu32 " overlap, %" PRIu32 " only touch\n", list.leaks, list.touching);
+    return list.leaks != 0;
 }

@@ -1,5 +1,5 @@
-//! The leak list of a footprint file. Exit status: 0 no leaks, 1 leaks, 2 the file is refused, 3 it could not be read or the list
-//! not be written.
+//! The leak list of a footprint file, and on standard error its two numbers. Exit status: 0 no leaks, though strips may touch, 1 leaks,
+//! 2 the file is refused, 3 it could not be read or the list not be written.
 
 use std::io::{self, Read, Write};
 use std::{env, fs::File, process::exit};
@@ -11,6 +11,7 @@ struct List {
     place: u32,
     length: usize,
     leaks: u32,
+    touching: u32,
 }
 
 extern "C" {
@@ -33,7 +34,11 @@ fn run() -> io::Result<i32> {
         writeln!(out, "refused {} at {}", list.number, list.place)?;
     }
     out.flush()?;
-    Ok(if list.number != 0 { 2 } else { i32::from(list.leaks > 0) })
+    if list.number != 0 {
+        return Ok(2);
+    }
+    eprintln!("{} overlap, {} only touch", list.leaks, list.touching);
+    Ok(i32::from(list.leaks > 0))
 }
 
 fn main() {

@@ -1,5 +1,5 @@
 #!/usr/bin/env python3
-"""Makes three footprint files: night, clean and cut_night.
+"""Makes four footprint files: night, clean, neighbours and cut_night.
 
     make_night.py [DIRECTORY]      writes them there, else beside this script
 
@@ -127,10 +127,17 @@ def clean():
     return footprint(boat.recordings)
 
 
+def neighbours():
+    """One line in two recordings: its first half is training, its second test. What they share is the edge between them."""
+    boat = Boat(seed=20240923, first_id=240923001)
+    line(boat, 0, [TRAINING, TEST])
+    return footprint(boat.recordings)
+
+
 def main():
     directory = pathlib.Path(sys.argv[1]) if len(sys.argv) > 1 else pathlib.Path(__file__).resolve().parent
     whole = night()
-    files = {"night": whole, "clean": clean(), "cut_night": whole[: 40 * 512]}
+    files = {"night": whole, "clean": clean(), "neighbours": neighbours(), "cut_night": whole[: 40 * 512]}
     for name, content in files.items():
         (directory / f"{name}.footprint").write_bytes(content)
 

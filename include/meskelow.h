@@ -1,5 +1,5 @@
-/* Meskelow: the intersection of two triangles, the reader of footprint files and the leak list, proved against their rules
- * (docs/RULES.md).
+/* Meskelow: the intersection of two triangles, whether they overlap, touch or are apart, the reader of footprint files and the
+ * leak list, proved against their rules (docs/RULES.md).
  *
  * Link target/staticlib/libmeskelow.a, which `rt staticlib meskelow` makes: x86-64 Linux code that calls nothing but the C
  * library's memcpy and memset, allocates nothing, keeps no state and may be called from any number of threads at once. meskelow_leaks
@@ -8,7 +8,7 @@
  * What is proved (docs/PROMISES.md names each theorem): whatever numbers, bytes and lengths are passed, every call ends and
  * returns exactly the answer of the rules, in every bit of every field and of the room; nothing is read or written outside the
  * slices that are lent; nothing changes beyond the first 2n values of the room (of a NaN there it is proved that it is still a
- * NaN) or beyond the list's bytes, and nothing at all by a call that is refused or that is lent a file only. Not proved: the
+ * NaN) or beyond the list's bytes, and nothing at all by a call that is refused or that is lent no room. Not proved: the
  * compiler's back end, memcpy, memset, and the caller.
  *
  * What is left to the caller: the lengths are true, so that so many doubles or bytes may be read, and in the room read and
@@ -48,17 +48,37 @@ typedef struct {
     uint32_t number;   /* 0: an answer. Else one of the refusals above, and every other field is zero */
     uint32_t n;        /* corners of the ring that the two triangles share: 0, or 3 to 6. The first 2n values of the room are
                         * x and y of each, in the ring's order; positions may coincide */
-    double area;       /* the ring's area, never negative; 0.0 without a ring. A ring can have area 0.0 too: n says whether
-                        * the triangles meet */
+    double area;       /* the ring's area, never negative; 0.0 without a ring. A ring can have area 0.0 too, as where triangles only
+                        * share an edge: n says whether there is a ring, and meskelow_decide whether the two overlap */
     bool u_in_v[3];    /* vertex i of U is in V */
     bool v_in_u[3];    /* corner k of V is in U */
-    bool neighbour[3]; /* V's edge on line a touches U: a crossing lies on it, or one of its ends is in U. Edge 0 runs between
-                        * V0 and V2, edge 1 between V0 and V1, edge 2 between V1 and V2 */
+    bool neighbour[3]; /* of V's edge on line a: a crossing lies on it, or one of its ends is in U. Edge 0 runs between V0 and V2,
+                        * edge 1 between V0 and V1, edge 2 between V1 and V2 */
 } meskelow_answer;
 
 /* values: U0x, U0y, U1x, U1y, U2x, U2y, V0x, V0y, V1x, V1y, V2x, V2y. V is the reference: with U and V exchanged rounding may
  * give another answer. Either orientation of either triangle will do. */
 meskelow_answer meskelow_intersect(const double *values, size_t values_len, double *room, size_t room_len);
+
+enum { /* the kinds of triangle pairs */
+    MESKELOW_APART = 0,      /* there is no ring */
+    MESKELOW_TOUCHING = 1,   /* there is a ring, and its computed area is zero */
+    MESKELOW_OVERLAPPING = 2 /* there is a ring, and its computed area is above zero */
+};
+
+typedef struct {
+    uint32_t number;   /* 0: an answer. Else one of the refusals above, and both other fields are zero. Look here first: beside a
+                        * refusal kind 0 does not say MESKELOW_APART, and in the leak list a refused pair counts as overlapping */
+    uint32_t kind;     /* of an answer, MESKELOW_APART, MESKELOW_TOUCHING or MESKELOW_OVERLAPPING */
+    double area;       /* of an answer, the area that meskelow_intersect computes, bit for bit: above zero if the two overlap, else
+                        * 0.0. It is rounded: triangles that truly share no more than a part of an edge may overlap by a tiny
+                        * area, and triangles that truly touch may be apart (README.md, "Neighbours") */
+} meskelow_decision;
+
+/* Whether U and V overlap, touch or are apart, which is what the leak list asks of each triangle pair. values are those of
+ * meskelow_intersect. No room is lent, and what is refused is exactly what meskelow_intersect refuses with a room of
+ * MESKELOW_CORNER_ROOM: 1 for any other number of values than twelve, and 4 also for the corners' positions and the area. */
+meskelow_decision meskelow_decide(const double *values, size_t values_len);
 
 /* Footprint files: README.md has the format. A file is lent whole, as the bytes that it has. Reading it from a disk, and what
  * can go wrong with that, is the caller's. */
@@ -128,12 +148,14 @@ typedef struct {
     uint32_t number;   /* 0: an answer. Else the file's own refusal, or the one above, and every field below place is zero */
     uint32_t place;    /* the file's own, or 0 */
     size_t length;     /* of an answer, the list's bytes, at the front of the room; no NUL stands behind them */
-    uint32_t leaks;    /* and how many leak lines it has: 0 says that no test recording meets a training recording */
+    uint32_t leaks;    /* how many leak lines it has: 0 says that no test recording overlaps a training recording, */
+    uint32_t touching; /* and the number of its closing line: how many pairs of a test and a training recording only touch */
 } meskelow_list;
 
-/* The leak list of the file: `leaks K`, then for each test recording and training recording that meet, in table order, a line
- * `test T train R pairs N` with their ids and the number of triangle pairs that meet. Decimal numbers, a line feed after each
- * line. */
+/* The leak list of the file: `leaks K`; then for each test recording and training recording with a triangle pair that overlaps, in
+ * table order, a line `test T train R pairs N` with their ids and the number of triangle pairs that overlap; last, always, the
+ * closing line `touching K` with the number of test and training recordings that have a triangle pair that touches and none that
+ * overlaps, each two of them counted once. Decimal numbers, a line feed after each line. The shortest list has 19 bytes. */
 meskelow_list meskelow_leaks(const uint8_t *file, size_t file_len, uint8_t *room, size_t room_len);
 
 #ifdef __cplusplus

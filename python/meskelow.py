@@ -4,11 +4,15 @@
 
     answer = meskelow.intersect([(1, 1), (-3, 1), (1, -3)], [(0, 0), (4, 0), (0, 4)])
     print(answer.ring, answer.area)
+    if meskelow.decide([(0, 0), (4, 0), (0, -4)], [(0, 0), (4, 0), (0, 4)]).kind is meskelow.Kind.TOUCHING:
+        print("neighbours")
 
     with open("night.footprint", "rb") as stream:
         file = stream.read()
-    for leak in meskelow.leaks(file).leaks:
+    found = meskelow.leaks(file)
+    for leak in found.leaks:
         print(leak.test, leak.train, leak.pairs)
+    print(found.touching, "pairs of recordings only touch")
 
 What the rules refuse is raised as `Refused`, a ValueError that carries their number and place. So whatever a function
 returns is an answer.
@@ -29,6 +33,7 @@ array of any kind, by the bytes that it holds, in its order. A file's name is a 
 from __future__ import annotations
 
 import ctypes
+import enum
 import functools
 import numbers
 import operator
@@ -68,7 +73,7 @@ Bytes = Union[bytes, bytearray, memoryview]  # or whatever else has a buffer
 Triangle = Sequence[Sequence[float]]  # three (x, y)
 Flags = Tuple[bool, bool, bool]
 
-_LEAK = re.compile("test ([0-9]+) train ([0-9]+) pairs ([0-9]+)")
+_LEAK = re.compile("test ([0-9]+) train ([0-9]+) pairs ([0-9]+)\n")
 
 
 class Refused(ValueError):
@@ -96,7 +101,22 @@ class Answer(NamedTuple):
     area: float
     u_in_v: Flags  # vertex i of U is in V
     v_in_u: Flags  # corner k of V is in U
-    neighbour: Flags  # V's edge on line a touches U
+    neighbour: Flags  # a crossing lies on V's edge on line a, or one of its ends is in U
+
+
+class Kind(enum.Enum):
+    """What two triangles are to each other, by the ring that they share and its computed area."""
+
+    APART = 0  # there is no ring
+    TOUCHING = 1  # there is a ring, and its area is zero
+    OVERLAPPING = 2  # there is a ring, and its area is above zero
+
+
+class Decision(NamedTuple):
+    """Whether two triangles overlap, touch or are apart, and the area of what they share: above zero if they overlap, else 0.0."""
+
+    kind: Kind
+    area: float
 
 
 class Recording(NamedTuple):
@@ -110,31 +130,40 @@ class Recording(NamedTuple):
 
 
 class Leak(NamedTuple):
-    """A test recording that meets a training recording, by their ids."""
+    """A test recording that overlaps a training recording, by their ids."""
 
     test: int
     train: int
-    pairs: int  # how many pairs of their triangles meet
+    pairs: int  # how many pairs of their triangles overlap
 
 
 class LeakList(NamedTuple):
-    """The leaks of a file in the list's order, and the list itself."""
+    """The leaks of a file in the list's order, the list itself, and the number of its closing line. More may come behind these: take
+    them by their names."""
 
     leaks: Tuple[Leak, ...]
     text: str
+    touching: int  # how many pairs of a test and a training recording touch and do not overlap
 
 
 def intersect(u: Triangle, v: Triangle) -> Answer:
     """What U and V share. V is the reference: exchanged they may give another answer, by rounding. Raises `Refused`, 1 to 5, where
     1 says that a triangle is not three vertices with two coordinates each."""
-    if any(len(triangle) != 3 or any(len(vertex) != 2 for vertex in triangle) for triangle in (u, v)):
-        raise Refused(REFUSED_LENGTHS)
-    values = (ctypes.c_double * 12)(*(_real(c) for triangle in (u, v) for vertex in triangle for c in vertex))
+    values = _values(u, v)
     room = (ctypes.c_double * 12)()
     got = _library().meskelow_intersect(values, 12, room, 12)
     _raise_if_refused(got.number)
     ring = tuple((room[2 * k], room[2 * k + 1]) for k in range(got.n))
     return Answer(ring, got.area, _three(got.u_in_v), _three(got.v_in_u), _three(got.neighbour))
+
+
+def decide(u: Triangle, v: Triangle) -> Decision:
+    """Whether U and V overlap, touch or are apart. This is what the leak list asks of each triangle pair, U being the test
+    recording's. Raises `Refused` exactly where `intersect` does; in the list such a pair would count as overlapping."""
+    values = _values(u, v)
+    got = _library().meskelow_decide(values, 12)
+    _raise_if_refused(got.number)
+    return Decision(Kind(got.kind), got.area)
 
 
 def check(file: Bytes) -> None:
@@ -173,11 +202,11 @@ def leaks(file: Bytes) -> LeakList:
     got = _library().meskelow_leaks(lent, len(lent), room, len(room))
     _raise_if_refused(got.number, got.place)
     text = room.raw[: got.length].decode("ascii")
-    first, *lines = text.splitlines()
-    found = tuple(Leak(*map(int, match.groups())) for match in map(_LEAK.fullmatch, lines) if match)
-    if first != f"leaks {got.leaks}" or not len(found) == len(lines) == got.leaks:
+    found = tuple(Leak(*map(int, line)) for line in _LEAK.findall(text))
+    lines = "".join(f"test {leak.test} train {leak.train} pairs {leak.pairs}\n" for leak in found)
+    if text != f"leaks {got.leaks}\n{lines}touching {got.touching}\n" or len(found) != got.leaks:
         raise LibraryError("the library writes other lists than this module reads; are both of one version?")
-    return LeakList(found, text)
+    return LeakList(found, text, got.touching)
 
 
 def build() -> None:
@@ -211,6 +240,10 @@ class _Answer(ctypes.Structure):
     ]
 
 
+class _Decision(ctypes.Structure):
+    _fields_ = [("number", ctypes.c_uint32), ("kind", ctypes.c_uint32), ("area", ctypes.c_double)]
+
+
 class _Verdict(ctypes.Structure):
     _fields_ = [("number", ctypes.c_uint32), ("place", ctypes.c_uint32)]
 
@@ -225,12 +258,14 @@ class _List(ctypes.Structure):
         ("place", ctypes.c_uint32),
         ("length", ctypes.c_size_t),
         ("leaks", ctypes.c_uint32),
+        ("touching", ctypes.c_uint32),
     ]
 
 
 _DOUBLES = ctypes.POINTER(ctypes.c_double)
 _FUNCTIONS = {
     "meskelow_intersect": (_Answer, [_DOUBLES, ctypes.c_size_t, _DOUBLES, ctypes.c_size_t]),
+    "meskelow_decide": (_Decision, [_DOUBLES, ctypes.c_size_t]),
     "meskelow_check": (_Verdict, [ctypes.c_char_p, ctypes.c_size_t]),
     "meskelow_recording": (_Entry, [ctypes.c_char_p, ctypes.c_size_t, ctypes.c_size_t]),
     "meskelow_leaks": (_List, [ctypes.c_char_p, ctypes.c_size_t, ctypes.c_char_p, ctypes.c_size_t]),
@@ -264,6 +299,13 @@ def _words() -> Dict[int, str]:
         return {int(number): words for number, _, _, _, words in rows}
     except (OSError, ValueError):
         return {}
+
+
+def _values(u: Triangle, v: Triangle) -> ctypes.Array[ctypes.c_double]:
+    """The twelve values of U and V."""
+    if any(len(triangle) != 3 or any(len(vertex) != 2 for vertex in triangle) for triangle in (u, v)):
+        raise Refused(REFUSED_LENGTHS)
+    return (ctypes.c_double * 12)(*(_real(c) for triangle in (u, v) for vertex in triangle for c in vertex))
 
 
 def _real(value: float) -> float:

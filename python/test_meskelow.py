@@ -1,17 +1,20 @@
 """Tests of meskelow.py with the library. What is expected was worked out by hand: the twelve cases and the example in docs/RULES.md
-and README.md."""
+and README.md. The night's list and an area that rounding makes are the second program's."""
 
 import array
 import contextlib
 import decimal
 import fractions
 import functools
+import math
 import pathlib
 import pickle
+import struct
 import threading
 import unittest
 
 import meskelow
+from meskelow import Kind
 
 try:
     import numpy
@@ -23,6 +26,7 @@ EXAMPLES = pathlib.Path(__file__).resolve().parent.parent / "examples"
 V = [(0, 0), (4, 0), (0, 4)]
 A = [(1, 1), (2, 1), (1, 2)]
 D = [(1, 1), (-3, 1), (1, -3)]
+F = [(0, 0), (4, 0), (0, -4)]
 
 # 84 bytes: training recording 7 has V, test recording 9 has D's U.
 LEAK = bytes.fromhex(
@@ -33,10 +37,21 @@ LEAK = bytes.fromhex(
     "30000000 02000000 54000000"
 )
 EMPTY = bytes.fromhex("00000000 00000000 0c000000")
+LIST = "leaks 1\ntest 9 train 7 pairs 1\ntouching 0\n"
+NO_LEAKS = "leaks 0\ntouching 0\n"
 
 
 def changed(place, byte):
     return LEAK[:place] + bytes([byte]) + LEAK[place + 1 :]
+
+
+def footprint(*recordings):
+    """The bytes of a footprint file with these recordings: id, set, triangles."""
+    triangles = table = b""
+    for identity, which, own in recordings:
+        table += struct.pack("<IIHBB", identity, len(triangles), len(own), which, 0)
+        triangles += b"".join(struct.pack("<6i", *(c for vertex in triangle for c in vertex)) for triangle in own)
+    return triangles + table + struct.pack("<III", len(triangles), len(recordings), len(triangles) + len(table) + 12)
 
 
 def flags(text):
@@ -181,6 +196,81 @@ class Triangles(Case):
         self.assertEqual(meskelow.intersect([(whole, 0), (0, 9), (0, 0)], V), meskelow.intersect([(2.0**53, 0), (0, 9), (0, 0)], V))
 
 
+class Decisions(Case):
+    def decides(self, u, v, kind, area):
+        got = meskelow.decide(u, v)
+        self.assertEqual(got, (kind, area))
+        self.assertEqual(math.copysign(1, got.area), 1)  # no area is -0.0
+        self.assertEqual(got.area, meskelow.intersect(u, v).area)
+        self.assertEqual(got.kind is Kind.APART, meskelow.intersect(u, v).ring == ())
+
+    def test_worked_cases(self):
+        for case, u, v, kind, area in [
+            ("A", A, V, Kind.OVERLAPPING, 0.5),
+            ("B", [(0, 0), (8, 0), (0, 8)], A, Kind.OVERLAPPING, 0.5),
+            ("C", [(6, 6), (-2, 6), (6, -2)], [(0, 0), (8, 0), (0, 8)], Kind.OVERLAPPING, 20),
+            ("D", D, V, Kind.OVERLAPPING, 1),
+            ("E", [(10, 10), (11, 10), (10, 11)], V, Kind.APART, 0),
+            ("F", F, V, Kind.TOUCHING, 0),
+            ("G", [(-3, 5), (5, -3), (9, 9)], V, Kind.OVERLAPPING, 6),
+            ("H", A, [(0, 0), (0, 4), (4, 0)], Kind.OVERLAPPING, 0.5),
+        ]:
+            with self.subTest(case=case):
+                self.decides(u, v, kind, area)
+
+    def test_refused_cases(self):
+        flat = [(0, 0), (1, 1), (2, 2)]
+        for case, u, v, number in [("I", A, flat, 3), ("J", flat, V, 5), ("L", A, [(0, 0), (1e300, 0), (0, 1e300)], 4)]:
+            with self.subTest(case=case), self.refused(number, 0):
+                meskelow.decide(u, v)
+        for v in (V, flat):
+            for place in range(12):
+                values = [float(c) for vertex in A + v for c in vertex]
+                values[place] = float("nan")
+                vertices = list(zip(values[::2], values[1::2]))
+                with self.subTest(case="K", place=place), self.refused(2, 0):
+                    meskelow.decide(vertices[:3], vertices[3:])
+
+    def test_an_area_that_is_halved_to_zero(self):
+        """The area's sum is 2^-1074, the smallest f64 above zero, and half of it is rounded to 0.0."""
+        tiny = [(0, 0), (2.0**-537, 0), (0, 2.0**-537)]
+        self.decides(tiny, tiny, Kind.TOUCHING, 0)
+        larger = [(0, 0), (2.0**-536, 0), (0, 2.0**-537)]
+        self.decides(larger, larger, Kind.OVERLAPPING, 2.0**-1074)
+
+    def test_by_the_computed_ring_and_area(self):
+        """They share a part of an edge, and rounding gives it an area; and a corner on an edge, a tie that gives no ring."""
+        part_of_an_edge = [(458, -958), (-13747, -4524), (-1189, -975)], [(-6479, -2470), (-805, -156), (-12827, -4264)]
+        self.decides(*part_of_an_edge, Kind.OVERLAPPING, 2.0**-30)
+        corner_on_an_edge = [(0, -1), (-1, 0), (0, 3)], [(4, 1), (2, -1), (0, 1)]
+        self.decides(*corner_on_an_edge, Kind.APART, 0)
+        self.decides(*reversed(corner_on_an_edge), Kind.TOUCHING, 0)
+
+    def test_shapes(self):
+        four = V + [(1, 1)]
+        for u, v in [(V[:2], four), (four, V[:2]), (V[:2], V), (V, []), (V, [(0, 0), (4, 0, 0), (4,)])]:
+            with self.refused(1, 0):
+                meskelow.decide(u, v)
+        for u in [("aa", "bb", "cc"), [(None, 0), (1, 0), (0, 1)], [(1j, 0), (1, 0), (0, 1)], [0, 0, 1], 1, None]:
+            with self.assertRaises(TypeError):
+                meskelow.decide(u, V)
+        with self.assertRaises(OverflowError):
+            meskelow.decide([(10**400, 1), (-3, 1), (1, -3)], V)
+
+    def test_kinds_of_triangles_and_numbers(self):
+        for u, v in [(tuple(D), tuple(V)), ([list(c) for c in D], [array.array("d", c) for c in V]), (Array(D), Array(V))]:
+            self.assertEqual(meskelow.decide(u, v), (Kind.OVERLAPPING, 1))
+        for kind in (float, Scalar, Whole, fractions.Fraction, decimal.Decimal):
+            u, v = ([(kind(x), kind(y)) for x, y in triangle] for triangle in (F, V))
+            self.assertEqual(meskelow.decide(u, v), (Kind.TOUCHING, 0))
+
+    def test_kinds_have_the_header_s_numbers(self):
+        self.assertEqual([kind.value for kind in (Kind.APART, Kind.TOUCHING, Kind.OVERLAPPING)], [0, 1, 2])
+        got = meskelow.decide(F, V)
+        self.assertIs(pickle.loads(pickle.dumps(got)).kind, Kind.TOUCHING)
+        self.assertIs(type(got.area), float)
+
+
 class Files(Case):
     def test_check_has_no_answer(self):
         self.assertIsNone(meskelow.check(LEAK))
@@ -254,19 +344,44 @@ class Files(Case):
 
     def test_leaks(self):
         got = meskelow.leaks(LEAK)
-        self.assertEqual(got, (((9, 7, 1),), "leaks 1\ntest 9 train 7 pairs 1\n"))
+        self.assertEqual(got, (((9, 7, 1),), LIST, 0))
         self.assertEqual((got.leaks[0].test, got.leaks[0].train, got.leaks[0].pairs), (9, 7, 1))
+        self.assertEqual((got.text, got.touching), (LIST, 0))
+
+    def test_touching(self):
+        """Each two recordings count once, however many of their triangles touch, and not if any overlap."""
+        train, test, held_back = meskelow.TRAINING, meskelow.TEST, meskelow.HELD_BACK
+        for recordings, expected in [
+            ([(7, train, [V]), (9, test, [F])], ((), "leaks 0\ntouching 1\n", 1)),
+            ([(7, train, [V, V]), (9, test, [F, F])], ((), "leaks 0\ntouching 1\n", 1)),
+            ([(7, train, [V]), (9, test, [F, D])], (((9, 7, 1),), LIST, 0)),
+            ([(7, train, [V]), (9, test, [D, F, F])], (((9, 7, 1),), LIST, 0)),
+            ([(7, train, [V]), (9, test, [F]), (3, train, [V])], ((), "leaks 0\ntouching 2\n", 2)),
+            ([(7, train, [V]), (9, test, [F]), (3, test, [D])], (((3, 7, 1),), "leaks 1\ntest 3 train 7 pairs 1\ntouching 1\n", 1)),
+            ([(7, train, [V]), (9, held_back, [F])], ((), NO_LEAKS, 0)),
+            ([(7, held_back, [V]), (9, test, [F])], ((), NO_LEAKS, 0)),
+            ([(7, train, [V]), (9, train, [F])], ((), NO_LEAKS, 0)),
+        ]:
+            with self.subTest(recordings=recordings):
+                self.assertEqual(meskelow.leaks(footprint(*recordings)), expected)
+
+    def test_neighbours(self):
+        """Two strips one behind the other, of which one is a test recording."""
+        got = meskelow.leaks((EXAMPLES / "neighbours.footprint").read_bytes())
+        self.assertEqual(got, ((), "leaks 0\ntouching 1\n", 1))
 
     def test_night(self):
         """Its list comes from the second program."""
         got = meskelow.leaks((EXAMPLES / "night.footprint").read_bytes())
         self.assertEqual(got.text, (EXAMPLES / "night.expected").read_text())
-        self.assertEqual("".join(f"test {leak.test} train {leak.train} pairs {leak.pairs}\n" for leak in got.leaks), got.text.split("\n", 1)[1])
+        first, *lines, closing = got.text.splitlines()
+        self.assertEqual((first, closing), (f"leaks {len(got.leaks)}", f"touching {got.touching}"))
+        self.assertEqual([f"test {leak.test} train {leak.train} pairs {leak.pairs}" for leak in got.leaks], lines)
 
     def test_no_leaks(self):
-        self.assertEqual(meskelow.leaks(EMPTY), ((), "leaks 0\n"))
-        self.assertEqual(meskelow.leaks(changed(70, 2)), ((), "leaks 0\n"))  # 9 is held back
-        self.assertEqual(meskelow.leaks(changed(58, 1)), ((), "leaks 0\n"))  # both are test recordings
+        self.assertEqual(meskelow.leaks(EMPTY), ((), NO_LEAKS, 0))
+        self.assertEqual(meskelow.leaks(changed(70, 2)), ((), NO_LEAKS, 0))  # 9 is held back
+        self.assertEqual(meskelow.leaks(changed(58, 1)), ((), NO_LEAKS, 0))  # both are test recordings
 
     def test_kinds_of_bytes(self):
         """By the bytes that they hold, whatever these are called, in their order."""
@@ -287,7 +402,7 @@ class Files(Case):
             self.assertIsNone(meskelow.check(file))
             self.assertEqual(meskelow.recording(file, 1).id, 9)
             self.assertEqual(len(list(meskelow.recordings(file))), 2)
-            self.assertEqual(meskelow.leaks(file).text, "leaks 1\ntest 9 train 7 pairs 1\n")
+            self.assertEqual(meskelow.leaks(file).text, LIST)
         for file in ("leak.footprint", EXAMPLES / "leak.footprint", 84, list(LEAK), None):
             for ask in (meskelow.check, meskelow.leaks, meskelow.recordings):
                 with self.assertRaises(TypeError):
@@ -300,7 +415,7 @@ class Files(Case):
             thread.start()
         for thread in threads:
             thread.join()
-        self.assertEqual(texts, ["leaks 1\ntest 9 train 7 pairs 1\n"] * 8)
+        self.assertEqual(texts, [LIST] * 8)
 
     def test_a_thread_with_little_stack(self):
         night = (EXAMPLES / "night.footprint").read_bytes()
@@ -322,6 +437,8 @@ class Numpy(Case):
                 pair = numpy.array([D, V], dtype=kind)
                 self.assertEqual(meskelow.intersect(*pair), expected)
                 self.assertEqual(meskelow.intersect(list(pair[0]), [tuple(c) for c in pair[1]]), expected)
+                self.assertEqual(meskelow.decide(*pair), (Kind.OVERLAPPING, 1))
+                self.assertEqual(meskelow.decide(*numpy.array([F, V], dtype=kind)), (Kind.TOUCHING, 0))
         pair = numpy.array([D, V], dtype="f8")
         doubled = numpy.repeat(numpy.repeat(pair, 2, axis=1), 3, axis=2)
         for u, v in [
@@ -336,28 +453,32 @@ class Numpy(Case):
     def test_answers_are_plain(self):
         got = meskelow.intersect(*numpy.array([D, V], dtype="f4"))
         self.assertEqual({type(c) for corner in got.ring for c in corner} | {type(got.area)}, {float})
+        self.assertIs(type(meskelow.decide(*numpy.array([D, V], dtype="f4")).area), float)
 
     def test_refused(self):
         pair = numpy.array([D, V], dtype="f8")
         for u in (pair, pair[0, :2], pair[0, :, :1], pair[0].T, numpy.zeros((3, 3)), numpy.zeros(12), numpy.zeros((0, 2))):
-            with self.subTest(shape=u.shape), self.refused(1, 0):
-                meskelow.intersect(u, V)
+            for ask in (meskelow.intersect, meskelow.decide):
+                with self.subTest(shape=u.shape), self.refused(1, 0):
+                    ask(u, V)
         for value in (numpy.nan, numpy.inf):
             pair[0, 0, 0] = value
-            with self.refused(2, 0):
-                meskelow.intersect(*pair)
+            for ask in (meskelow.intersect, meskelow.decide):
+                with self.refused(2, 0):
+                    ask(*pair)
 
     def test_no_numbers(self):
         for kind in ("c16", "c8", "G", "U4", "S4"):
             pair = numpy.array([D, V], dtype=kind)
-            with self.subTest(kind=kind), self.assertRaises(TypeError):
-                meskelow.intersect(*pair)
+            for ask in (meskelow.intersect, meskelow.decide):
+                with self.subTest(kind=kind), self.assertRaises(TypeError):
+                    ask(*pair)
 
     def test_files(self):
         file = numpy.frombuffer(LEAK, dtype="u1")
         mapped = numpy.memmap(EXAMPLES / "leak.footprint", mode="r")
         for lent in (file, file.view("<i4"), file.reshape(7, 12), numpy.repeat(file, 2)[::2], mapped):
-            self.assertEqual(meskelow.leaks(lent).text, "leaks 1\ntest 9 train 7 pairs 1\n")
+            self.assertEqual(meskelow.leaks(lent).text, LIST)
         with self.refused(12, 0):
             meskelow.check(file[:60])
 
@@ -408,6 +529,7 @@ class Errors(Case):
     def nothing_works(self, words):
         for text in (words, "run 'rt staticlib meskelow && python3 python/meskelow.py build'"):
             self.says(text, meskelow.intersect, A, V)
+            self.says(text, meskelow.decide, A, V)
             self.says(text, meskelow.check, LEAK)
             self.says(text, meskelow.recording, LEAK, 0)
             self.says(text, meskelow.leaks, LEAK)
@@ -431,19 +553,31 @@ class Errors(Case):
         self.nothing_works("cannot load ")
 
     def test_other_lists(self):
-        for text, count in [
-            ("leaks 1\n", 1),
-            ("leaks 0\ntest 9 train 7 pairs 1\n", 0),
-            ("leaks 0\ntest 9 train 7 pairs 1\n", 1),
-            ("leaks 1\ntest 9 train 7 pairs 1\ntouching 0\n", 1),
-            ("leaks 1\ntouching 0\n", 1),
+        line = "test 9 train 7 pairs 1\n"
+        for text, count, touching in [
+            ("leaks 1\ntouching 0\n", 1, 0),
+            (f"leaks 0\n{line}touching 0\n", 0, 0),
+            (f"leaks 0\n{line}touching 0\n", 1, 0),
+            (f"leaks 1\n{line}{line}touching 0\n", 1, 0),
+            (f"leaks 1\n{line}touching 0\n", 1, 1),
+            (f"leaks 1\n{line}touching 1\n", 1, 0),
+            (f"leaks 1\n{line}", 1, 0),
+            (f"leaks 1\n{line}touching 0", 1, 0),
+            (f"leaks 1\n{line}touching 00\n", 1, 0),
+            (f"leaks 1\n{line}touching 0\ntouching 0\n", 1, 0),
+            (f"leaks 1\n{line}touching 0\njunk\n", 1, 0),
+            (f"leaks 1\ntouching 0\n{line}", 1, 0),
+            (f"touching 0\nleaks 1\n{line}", 1, 0),
+            ("leaks 0\n", 0, 0),
+            ("touching 0\n", 0, 0),
+            ("", 0, 0),
         ]:
 
             class Other:
                 @staticmethod
                 def meskelow_leaks(file, length, room, room_length):
                     room[: len(text)] = text.encode()
-                    return meskelow._List(0, 0, len(text), count)
+                    return meskelow._List(0, 0, len(text), count, touching)
 
             with self.subTest(text=text):
                 self.put("_library", functools.lru_cache(maxsize=None)(lambda: Other))

@@ -1,5 +1,6 @@
 //! The classes of pairs that a comparison draws from.
 
+pub mod decisions;
 mod flat;
 pub mod formulas;
 mod long;
@@ -33,7 +34,7 @@ impl Class {
     }
 }
 
-pub const CLASSES: [Class; 30] = [
+pub const CLASSES: [Class; 32] = [
     Class("worked cases", 2, worked::any),
     Class("uniform, whole centimetres", 20, |r| ordinary::whole_centimetres(r).case(r)),
     Class("uniform, real values", 8, |r| ordinary::real_values(r).case(r)),
@@ -42,6 +43,7 @@ pub const CLASSES: [Class; 30] = [
     Class("shared edges", 4, |r| touching::shared_edge(r).shuffled(r).case(r)),
     Class("vertices on lines", 8, |r| touching::vertices_on_lines(r).shuffled(r).case(r)),
     Class("collinear edges", 4, |r| touching::collinear_edges(r).shuffled(r).case(r)),
+    Class("parts of edges", 5, |r| touching::part_of_an_edge(r).shuffled(r).case(r)),
     Class("identical triangles", 2, |r| touching::identical(r).shuffled(r).case(r)),
     Class("touching, some ulps off", 10, |r| near::nudged(r).case(r)),
     Class("touching, mapped and rounded", 8, |r| near::mapped(r).case(r)),
@@ -49,6 +51,7 @@ pub const CLASSES: [Class; 30] = [
     Class("signed zeros", 6, |r| smallest::signed_zeros(r).case(r)),
     Class("parameters underflow to zero", 5, |r| smallest::underflowing_parameters(r).case(r)),
     Class("scaled towards underflow", 6, |r| smallest::scaled_down(r).case(r)),
+    Class("areas of the smallest value", 2, |r| smallest::smallest_areas(r).case(r)),
     Class("scaled towards overflow of d", 3, |r| magnitudes::towards_d(r).case(r)),
     Class("scaled towards overflow of e", 3, |r| magnitudes::towards_e(r).case(r)),
     Class("overflow at a parameter", 4, |r| stages::parameter(r).case(r)),

@@ -1,9 +1,11 @@
 //! What one pair went through, so that a comparison can say what it has covered.
 
+use crate::decision::{Decision, OVERLAPPING, TOUCHING};
+use crate::exact::{common_to, Common};
 use crate::triangles::lines::{Parameters, Signs};
 use crate::triangles::numbers::{difference, Point};
 use crate::triangles::orders::{ends_of, lines_crossed, pair_test, Order};
-use crate::triangles::positions::crossing_position;
+use crate::triangles::positions::{area_sum, crossing_position};
 use crate::triangles::ring::{Place, Ring};
 use crate::triangles::trace::Trace;
 use crate::triangles::Refusal;
@@ -11,6 +13,9 @@ use crate::triangles::Refusal;
 #[derive(Clone, Default)]
 pub struct Coverage {
     pub refusal: Option<Refusal>,
+    pub decision: Decision,
+    /// What the triangles truly share, where it was looked at.
+    common: Option<Common>,
     pub denominator_overflowed: bool,
     pub t_was_minus_zero: bool,
     pub position_had_minus_zero: bool,
@@ -67,6 +72,45 @@ impl Trace for Coverage {
 }
 
 impl Coverage {
+    /// To be told after the run of the rules that is traced.
+    pub fn decided(&mut self, values: &[f64], decision: Decision) {
+        self.decision = decision;
+        if decision.number == 0 && self.is_close(values) {
+            self.common = values.try_into().ok().and_then(common_to);
+        }
+    }
+
+    /// Whether rounding or a tie may have decided: the others are spared the look at what they truly share.
+    fn is_close(&self, values: &[f64]) -> bool {
+        const LITTLE: f64 = 1e-9;
+        let larger = |most: f64, value: &f64| most.max(value.abs());
+        match self.decision.kind {
+            OVERLAPPING => {
+                let (area, size) = (self.decision.area, values.iter().fold(0.0, larger));
+                !area.is_normal() || area <= LITTLE * size * size
+            }
+            TOUCHING => true,
+            _ => {
+                let mut parameters = self.parameters.iter().flatten();
+                let little = LITTLE * parameters.clone().fold(0.0, larger);
+                self.pair_test_was_zero || parameters.any(|parameter| parameter.abs() <= little)
+            }
+        }
+    }
+
+    pub fn decided_as(&self, kind: u32) -> bool {
+        self.decision.number == 0 && self.decision.kind == kind
+    }
+
+    pub fn truly(&self, common: Common) -> bool {
+        self.common == Some(common)
+    }
+
+    /// Whether the ring touches, though the sum of its area is not zero.
+    pub fn halved_to_zero(&self) -> bool {
+        self.decided_as(TOUCHING) && area_sum(&self.positions).map_or(false, |sum| sum != 0.0)
+    }
+
     pub fn accepted(&self) -> bool {
         self.refusal.is_none()
     }
@@ -88,7 +132,10 @@ impl Coverage {
     /// Accepted, though on an edge that crosses `crossed` lines a test of two of them would have
     /// overflowed had it been reached.
     pub fn unreached_test_overflows(&self, crossed: usize) -> bool {
+        // Products of smaller ones are finite, which most pairs are soon done with.
+        const LARGE: f64 = 1e150;
         self.accepted()
+            && self.parameters.iter().flatten().any(|parameter| parameter.abs() > LARGE)
             && (0..3).any(|edge| {
                 let lines = lines_crossed(edge, &self.signs);
                 let on_edge = |line| lines.as_slice().contains(&line);
@@ -109,6 +156,12 @@ impl Coverage {
             Some(found) if self.accepted() => found,
             _ => return false,
         };
+        // Differences of smaller ones are finite.
+        const LARGE: f64 = 1e307;
+        let large = |value: &f64| value.abs() > LARGE;
+        if !self.parameters.iter().flatten().any(large) && !u.iter().any(|p| large(&p.x) || large(&p.y)) {
+            return false;
+        }
         (0..3).any(|edge| {
             lines_crossed(edge, &self.signs).as_slice().iter().any(|&line| {
                 let mut tried = Coverage::default();

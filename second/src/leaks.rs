@@ -1,14 +1,16 @@
-//! A footprint file and lent room go in; the list of test recordings whose triangles meet those of a
-//! training recording comes out, at the front of the room. Everything follows the rules, pair by pair.
+//! A footprint file and lent room go in; the list of test recordings whose triangles overlap those of a
+//! training recording comes out, at the front of the room, and how many others touch. Everything follows
+//! the rules, pair by pair.
 
 #[cfg(test)]
 mod worked;
 
 use std::fmt::Write;
 
+use crate::decision::{decide, Decision};
 use crate::footprint::stored::{triangle, TEST, TRAINING, TRIANGLE};
 use crate::footprint::{lines_of, Refused};
-use crate::triangles::{intersect, ROOM, VALUES};
+use crate::triangles::VALUES;
 
 const ROOM_TOO_SHORT: u32 = 7;
 
@@ -20,16 +22,18 @@ pub struct List {
     pub place: u32,
     /// Bytes of the whole list.
     pub length: usize,
-    /// Its lines but the first.
+    /// Its lines but the first and the last.
     pub leaks: u32,
+    /// The last line's number.
+    pub touching: u32,
 }
 
-/// A test and a training recording of which triangles meet, by their ids.
+/// A test and a training recording of which triangles overlap, by their ids.
 #[derive(Clone, Copy, Debug, PartialEq, Eq)]
 pub struct Leak {
     pub test: u32,
     pub training: u32,
-    /// How many triangle pairs meet.
+    /// How many triangle pairs overlap.
     pub pairs: u32,
 }
 
@@ -37,7 +41,33 @@ pub struct Leak {
 #[derive(Debug)]
 pub struct Whole {
     pub leaks: Vec<Leak>,
+    /// How many pairs of recordings touch and do not overlap.
+    pub touching: u32,
     pub text: String,
+}
+
+/// Of the triangle pairs of two recordings.
+#[derive(Clone, Copy, Debug, Default, PartialEq, Eq)]
+pub struct Counts {
+    pub overlapping: u32,
+    pub touching: u32,
+}
+
+impl Counts {
+    fn with(self, pair: Decision) -> Counts {
+        Counts {
+            overlapping: self.overlapping + u32::from(pair.overlaps()),
+            touching: self.touching + u32::from(pair.touches()),
+        }
+    }
+
+    pub fn leak(self) -> bool {
+        self.overlapping > 0
+    }
+
+    pub fn only_touch(self) -> bool {
+        self.touching > 0 && self.overlapping == 0
+    }
 }
 
 /// Never inlined, so that a caller pays for a call here as for one of a library.
@@ -47,66 +77,61 @@ pub fn leaks(file: &[u8], room: &mut [u8]) -> List {
 }
 
 pub fn whole_list(file: &[u8]) -> Result<Whole, Refused> {
-    let leaks = leaks_in(file)?;
-    let text = text_of(&leaks);
-    Ok(Whole { leaks, text })
+    let lines = lines_of(file)?;
+    let (mut leaks, mut touching) = (Vec::new(), 0);
+    for test in lines.iter().filter(|line| line.set == TEST) {
+        for training in lines.iter().filter(|line| line.set == TRAINING) {
+            let counts = counts_of(test.part(file), training.part(file));
+            if counts.leak() {
+                leaks.push(Leak { test: test.id, training: training.id, pairs: counts.overlapping });
+            }
+            touching += u32::from(counts.only_touch());
+        }
+    }
+    let text = text_of(&leaks, touching);
+    Ok(Whole { leaks, touching, text })
 }
 
 /// The second half of `leaks`: a refused file answers for itself, then the room is measured, and
 /// only then written to.
 pub fn written(whole: &Result<Whole, Refused>, room: &mut [u8]) -> List {
-    let (leaks, text) = match whole {
-        Ok(whole) => (&whole.leaks, whole.text.as_bytes()),
+    let whole = match whole {
+        Ok(whole) => whole,
         Err(refused) => {
             return List { number: refused.reason.number(), place: refused.place, ..List::default() }
         }
     };
+    let text = whole.text.as_bytes();
     if room.len() < text.len() {
         return List { number: ROOM_TOO_SHORT, ..List::default() };
     }
     room[..text.len()].copy_from_slice(text);
-    List { number: 0, place: 0, length: text.len(), leaks: leaks.len() as u32 }
+    let leaks = whole.leaks.len() as u32;
+    List { number: 0, place: 0, length: text.len(), leaks, touching: whole.touching }
 }
 
-fn leaks_in(file: &[u8]) -> Result<Vec<Leak>, Refused> {
-    let lines = lines_of(file)?;
-    let mut leaks = Vec::new();
-    for test in lines.iter().filter(|line| line.set == TEST) {
-        for training in lines.iter().filter(|line| line.set == TRAINING) {
-            let pairs = meeting_pairs(test.part(file), training.part(file));
-            if pairs > 0 {
-                leaks.push(Leak { test: test.id, training: training.id, pairs });
-            }
-        }
-    }
-    Ok(leaks)
-}
-
-/// How many triangles of the one part meet one of the other, every pair counted.
-pub fn meeting_pairs(of_u: &[u8], of_v: &[u8]) -> u32 {
-    let (mut values, mut corners) = ([0.0; VALUES], [0.0; ROOM]);
-    let mut meeting = 0;
+/// Every triangle of the one part with every one of the other.
+pub fn counts_of(of_u: &[u8], of_v: &[u8]) -> Counts {
+    let mut values = [0.0; VALUES];
+    let mut counts = Counts::default();
     for u in of_u.chunks_exact(TRIANGLE) {
         values[..6].copy_from_slice(&triangle(u).map(f64::from));
         for v in of_v.chunks_exact(TRIANGLE) {
             values[6..].copy_from_slice(&triangle(v).map(f64::from));
-            meeting += u32::from(meets(&values, &mut corners));
+            counts = counts.with(decide(&values));
         }
     }
-    meeting
+    counts
 }
 
-/// A refused pair counts as well, though no good file has one.
-fn meets(values: &[f64; VALUES], corners: &mut [f64; ROOM]) -> bool {
-    let answer = intersect(values, corners);
-    answer.number != 0 || answer.n > 0
-}
-
-fn text_of(leaks: &[Leak]) -> String {
+fn text_of(leaks: &[Leak], touching: u32) -> String {
     let mut text = format!("leaks {}\n", leaks.len());
+    let mut add = |line: std::fmt::Arguments| {
+        text.write_fmt(line).expect("a string takes all that is written to it");
+    };
     for Leak { test, training, pairs } in leaks {
-        writeln!(text, "test {test} train {training} pairs {pairs}")
-            .expect("a string takes all that is written to it");
+        add(format_args!("test {test} train {training} pairs {pairs}\n"));
     }
+    add(format_args!("touching {touching}\n"));
     text
 }

@@ -3,23 +3,27 @@
 const GUARD: usize = 4;
 
 /// One slice between guards. Everything is looked at by bits, never by value.
+#[derive(Clone)]
 pub struct Lent {
     memory: Vec<f64>,
 }
 
 impl Lent {
     pub fn holding(values: &[f64]) -> Self {
+        Lent::guarding(values.iter().copied())
+    }
+
+    /// A room whose every value is told from every other one and from anything computed.
+    pub fn room(length: usize) -> Self {
+        Lent::guarding((0..length).map(marked))
+    }
+
+    fn guarding(values: impl ExactSizeIterator<Item = f64>) -> Self {
         let mut memory = Vec::with_capacity(values.len() + 2 * GUARD);
         memory.extend((0..GUARD).map(|k| marked(100 + k)));
         memory.extend(values);
         memory.extend((0..GUARD).map(|k| marked(200 + k)));
         Lent { memory }
-    }
-
-    /// A room whose every value is told from every other one and from anything computed.
-    pub fn room(length: usize) -> Self {
-        let values: Vec<f64> = (0..length).map(marked).collect();
-        Lent::holding(&values)
     }
 
     pub fn lend(&mut self) -> &mut [f64] {

@@ -1,9 +1,11 @@
-//! The rules for triangles, footprint files and leak lists, written once more and apart from the
-//! proved crates, with inputs to compare the two by.
+//! The rules for triangles, pair decisions, footprint files and leak lists, written once more and apart
+//! from the proved crates, with inputs to compare the two by.
 
 pub mod case;
 pub mod classes;
 pub mod coverage;
+pub mod decision;
+pub mod exact;
 pub mod files;
 pub mod footprint;
 pub mod leaks;

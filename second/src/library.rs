@@ -1,5 +1,6 @@
 //! The library under test, called as a C program would call it.
 
+use crate::decision::Decision;
 use crate::footprint::{Entry, Verdict};
 use crate::leaks::List;
 
@@ -19,6 +20,7 @@ pub struct Returned {
 extern "C" {
     fn meskelow_intersect(values: *const f64, values_len: usize, room: *mut f64, room_len: usize)
         -> Returned;
+    fn meskelow_decide(values: *const f64, values_len: usize) -> Decision;
     fn meskelow_check(file: *const u8, file_len: usize) -> Verdict;
     fn meskelow_recording(file: *const u8, file_len: usize, k: usize) -> Entry;
     fn meskelow_leaks(file: *const u8, file_len: usize, room: *mut u8, room_len: usize) -> List;
@@ -35,6 +37,16 @@ pub fn intersect_with_null(values: &[f64], room: &mut [f64]) -> Returned {
     let input = if values.is_empty() { std::ptr::null() } else { values.as_ptr() };
     let output = if room.is_empty() { std::ptr::null_mut() } else { room.as_mut_ptr() };
     unsafe { meskelow_intersect(input, values.len(), output, room.len()) }
+}
+
+pub fn decide(values: &[f64]) -> Decision {
+    unsafe { meskelow_decide(values.as_ptr(), values.len()) }
+}
+
+/// The same with NULL in the place of an empty slice.
+pub fn decide_with_null(values: &[f64]) -> Decision {
+    let input = if values.is_empty() { std::ptr::null() } else { values.as_ptr() };
+    unsafe { meskelow_decide(input, values.len()) }
 }
 
 #[inline]

@@ -6,6 +6,7 @@ pub mod largest;
 mod recordings;
 pub mod rooms;
 mod scenes;
+mod seams;
 pub mod tally;
 mod tracks;
 pub mod worked;
@@ -15,22 +16,25 @@ use crate::footprint::lines_of;
 use crate::footprint::stored::{Line, TEST, TRAINING};
 use crate::random::Random;
 
-pub const CLASSES: [Class; 15] = [
+pub const CLASSES: [Class; 18] = [
     Class("no recordings", 5, |_| good::none().bytes()),
     Class("worked pairs", 14, scenes::worked),
     Class("few recordings on a small grid", 20, |r| scenes::grid(r, 2, 6, 3)),
     Class("several recordings on a small grid", 10, |r| scenes::grid(r, 9, 20, 1)),
-    Class("64 recordings on a small grid", 4, |r| scenes::grid(r, 64, 64, 1)),
+    Class("64 recordings on a small grid", 5, |r| scenes::grid(r, 64, 64, 1)),
     Class("touching pairs", 22, scenes::touching),
     Class("tracks that cross, touch or lie apart", 16, tracks::file),
+    Class("parts of edges", 34, scenes::part_of_an_edge),
+    Class("floors of planks", 26, seams::floor),
+    Class("tests and trainings on two banks", 16, seams::banks),
     Class("recordings of one set", 12, scenes::one_set),
-    Class("one pair that meets", 15, scenes::one_pair),
-    Class("many pairs that meet", 8, scenes::many_pairs),
+    Class("one pair with a ring", 22, scenes::one_pair),
+    Class("many pairs that overlap", 11, scenes::many_pairs),
     Class("triangles of any shape, one recording", 8, |r| good::one(r).bytes()),
     Class("triangles of any shape, few recordings", 10, |r| good::few(r).bytes()),
     Class("long and thin triangles", 10, |r| good::of_shape(r, shapes::thin).bytes()),
     Class("triangles at the ends of the range", 10, |r| good::of_shape(r, shapes::at_the_ends).bytes()),
-    Class("files that readers are compared with", 70, any_file),
+    Class("files that readers are compared with", 85, any_file),
 ];
 
 /// A class by its weight.

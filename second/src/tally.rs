@@ -4,6 +4,8 @@ use std::collections::HashMap;
 
 use crate::classes::CLASSES;
 use crate::coverage::Coverage;
+use crate::decision::{APART, OVERLAPPING, TOUCHING};
+use crate::exact::Common;
 use crate::triangles::ring::Place;
 use crate::triangles::Refusal;
 
@@ -41,6 +43,27 @@ const EVENTS: [Event; 11] = [
     ("-0.0 in a position", |c| c.accepted() && c.position_had_minus_zero),
 ];
 
+/// How pairs are decided, and where that is not what they truly are.
+const DECISIONS: [Event; 15] = [
+    ("apart", |c| c.decided_as(APART)),
+    ("touching", |c| c.decided_as(TOUCHING)),
+    ("overlapping", |c| c.decided_as(OVERLAPPING)),
+    ("refused with 1", |c| c.decision.number == 1),
+    ("refused with 2", |c| c.decision.number == 2),
+    ("refused with 3", |c| c.decision.number == 3),
+    ("refused with 4", |c| c.decision.number == 4),
+    ("refused with 5", |c| c.decision.number == 5),
+    ("decided, but with a room too short for a ring", |c| {
+        c.refusal == Some(Refusal::Length) && c.decision.number == 0
+    }),
+    ("touching by half of a sum that is not zero", Coverage::halved_to_zero),
+    ("touching, but truly overlapping", |c| c.decided_as(TOUCHING) && c.truly(Common::Area)),
+    ("overlapping, but truly touching", |c| c.decided_as(OVERLAPPING) && c.truly(Common::Contact)),
+    ("apart, but truly touching", |c| c.decided_as(APART) && c.truly(Common::Contact)),
+    ("apart, but truly overlapping", |c| c.decided_as(APART) && c.truly(Common::Area)),
+    ("not apart, but truly so", |c| !c.decided_as(APART) && c.truly(Common::Nothing)),
+];
+
 pub struct Row {
     pub table: &'static str,
     pub name: String,
@@ -61,6 +84,7 @@ impl Default for Tally {
         (0..15).for_each(|index| add("place", place_name(index)));
         REFUSALS.iter().for_each(|(_, name)| add("refusal", name.to_string()));
         EVENTS.iter().for_each(|(name, _)| add("event", name.to_string()));
+        DECISIONS.iter().for_each(|(name, _)| add("decision", name.to_string()));
         Tally { rows, combinations: HashMap::new() }
     }
 }
@@ -68,7 +92,8 @@ impl Default for Tally {
 impl Tally {
     /// The rows that one pair counts for.
     pub fn rows_of(class: usize, coverage: &Coverage) -> Vec<usize> {
-        let mut hit = vec![class];
+        let mut hit = Vec::with_capacity(32);
+        hit.push(class);
         let sizes = CLASSES.len();
         let places = sizes + SIZES.len();
         let refusals = places + 15;
@@ -84,6 +109,8 @@ impl Tally {
             }
         }
         hit.extend((0..EVENTS.len()).filter(|k| EVENTS[*k].1(coverage)).map(|k| events + k));
+        let decisions = events + EVENTS.len();
+        hit.extend((0..DECISIONS.len()).filter(|k| DECISIONS[*k].1(coverage)).map(|k| decisions + k));
         hit
     }
 

@@ -60,7 +60,7 @@ pub fn fold_verdict(sum: u64, verdict: Verdict) -> u64 {
 
 #[inline]
 pub fn fold_list(sum: u64, list: List) -> u64 {
-    let numbers = [list.number, list.place, list.length as u32, list.leaks];
+    let numbers = [list.number, list.place, list.length as u32, list.leaks, list.touching];
     numbers.iter().fold(sum, |sum, number| sum.rotate_left(7) ^ u64::from(*number).wrapping_add(1))
 }
 
@@ -182,13 +182,13 @@ mod tests {
     }
 
     #[test]
-    fn tracks_meet_here_and_there() {
+    fn tracks_overlap_here_and_there() {
         assert_eq!(judge(&file_of_tracks(MOST_TRACKS)), Verdict::default());
-        let meeting = |recordings: usize| {
+        let overlapping = |recordings: usize| {
             let list = whole_list(&file_of_tracks(recordings)).expect("a good file");
             list.leaks.iter().map(|leak| leak.pairs).sum::<u32>()
         };
-        assert!((20..100).contains(&meeting(1)));
-        assert!((20..200).contains(&meeting(5)));
+        assert!((20..100).contains(&overlapping(1)));
+        assert!((20..200).contains(&overlapping(5)));
     }
 }

@@ -1,6 +1,6 @@
 // Runs the triangle rules on the pairs of its standard input and writes what they answer. A line of the input has the room's length and then the
-// values, all as hexadecimal digits of their bits, with a space before each value. A line of the output has number, n, area, nine flags and the
-// room as it is afterwards; value k of the room is lent as 1000 + k.
+// values, all as hexadecimal digits of their bits, with a space before each value. A line of the output has number, n, area and nine
+// flags, then what is decided of the values, its number, kind and area, and then the room as it is afterwards; value k of the room is lent as 1000 + k.
 
 // The room as it is lent.
 fn lent() -> [f64; 32] {
@@ -46,6 +46,14 @@ fn write_answer(a: triangles::Answer) {
     write_flags(neighbour);
 }
 
+fn write_decision(d: triangles::Said) {
+    io::write_all(1, b" ");
+    io::print_decimal(1, d.number as u64);
+    io::write_all(1, b" ");
+    io::print_decimal(1, d.kind as u64);
+    write_value(d.area);
+}
+
 // The room's first values, and the end of the line.
 fn write_room(room: &[f64; 32], length: usize) {
     let mut k = 0;
@@ -66,6 +74,14 @@ fn answer_of(values: &[f64], n: usize, room: &mut [f64], length: usize) -> trian
         }
     }
     routine::intersect(values, room)
+}
+
+// What is decided of the first n of these values.
+fn decided_of(values: &[f64], n: usize) -> triangles::Said {
+    if n <= values.len() {
+        return routine::decide(&values[0..n]);
+    }
+    routine::decide(values)
 }
 
 // One more value, if there is room for it; how many there are.
@@ -97,6 +113,7 @@ fn run(line: &[u8]) {
     let n = put_values(&mut values, line, head.len());
     let mut room = lent();
     write_answer(answer_of(&values, n, &mut room, length));
+    write_decision(decided_of(&values, n));
     write_room(&room, length);
 }
 

@@ -22,8 +22,8 @@ use Rattle.triangles.specs.Refusals.{lengths, coordinates, wayToD, dZero, wayTo
 use Rattle.triangles.specs.Rows.{NotFinite, NoRow}
 use Rattle.triangles.specs.declared.Answer.{Answer}
 use Rattle.triangles.specs.declared.Decision.{Decision}
-use Rattle.triangles.specs.declared.Decision.the-variants.{Refused, Ring, Apart}
-use Rattle.triangles.specs.Decision.{enough, answerTo, decided, decisionOf}
+use Rattle.triangles.specs.declared.Decision.the-variants.{Refused, Overlapping, Touching, Apart}
+use Rattle.triangles.specs.Decision.{isAbove, enough, answerTo, decided, decisionOf}
 use Rattle.triangles.proofs.Rows.{by-none, number-is}
 use Rattle.centimetres.specs.Centimetres.{twelveValues, NeverRefused, AlwaysDecided}
 use Rattle.centimetres.proofs.Zero.{eq-exact}
@@ -83,17 +83,19 @@ never-refused u v hu hv room b = by-none (twelveValues u v) room .1 (no-row twel
 -- ---- the decision
 isRefused : Decision → Bool
 isRefused (Refused k) = true
-isRefused (Ring a) = false
+isRefused (Overlapping a) = false
+isRefused Touching = false
 isRefused Apart = false
 
 -- an answer without a number is decided
 no-number : (a : Answer) → a .number ≡ 0 → isRefused (decided a) ≡ false
 unfolding decided isRefused
-no-number a z = rw z (go (eqb (a .n) 0))
+no-number a z = rw z (go (eqb (a .n) 0) (isAbove (a .area)))
   where
-    go : (b : Bool) → isRefused (cond b Apart (Ring (a .area))) ≡ false
-    go true = refl
-    go false = refl
+    go : (b c : Bool) → isRefused (cond b Apart (cond c (Overlapping (a .area)) Touching)) ≡ false
+    go true c = refl
+    go false true = refl
+    go false false = refl
 
 pub always-decided : AlwaysDecided
 unfolding decisionOf isRefused

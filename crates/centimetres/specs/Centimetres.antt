@@ -1,4 +1,4 @@
--- 01, "The leak list": "a pair that is refused counts as meeting". No pair of triangles of good footprint files is: their numbers are whole centimetres, in range, and each triangle has an area.
+-- 02, No. 1: a pair that is refused overlaps. No pair of triangles of good footprint files is: their numbers are whole centimetres, in range, and each triangle has an area.
 -- Definitions and statements.
 use Prim.Native.Nat.{ℕ, _*_, _<_, _≤_}
 use mathlib.Core.Path.{_≡_}

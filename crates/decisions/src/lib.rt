@@ -1,6 +1,6 @@
-// What is decided of a pair of triangles: from its answer, and whether the two meet.
+// What is decided of a pair of triangles: from its answer, which kind of pair it is, and what is said of it.
 ghost use mathlib.Core.Path.{_≡_};
-ghost use Rattle.triangles.specs.Decision.{decided, meets as meetsBy};
+ghost use Rattle.triangles.specs.Decision.{decided, overlaps as overlapsBy, touches as touchesBy, said};
 
 // An answer as a decision.
 pub fn decision_from(a: triangles::Answer) -> triangles::Decision
@@ -12,16 +12,60 @@ pub fn decision_from(a: triangles::Answer) -> triangles::Decision
     if a.n == 0 {
         return triangles::Decision::Apart;
     }
-    triangles::Decision::Ring(a.area)
+    if 0.0 < a.area {
+        return triangles::Decision::Overlapping(a.area);
+    }
+    triangles::Decision::Touching
 }
 
-// Whether the two triangles meet: the ring has corners, or the pair is refused.
-pub fn meets(d: triangles::Decision) -> bool
-    ensures { λ r. ⌜ r ≡ meetsBy d ⌝ }
+// Whether the two triangles overlap; a pair that is refused does.
+pub fn overlaps(d: triangles::Decision) -> bool
+    ensures { λ r. ⌜ r ≡ overlapsBy d ⌝ }
 {
     match d {
         triangles::Decision::Refused(_) => true,
-        triangles::Decision::Ring(_) => true,
+        triangles::Decision::Overlapping(_) => true,
+        triangles::Decision::Touching => false,
         triangles::Decision::Apart => false,
+    }
+}
+
+// Whether they only touch.
+pub fn touches(d: triangles::Decision) -> bool
+    ensures { λ r. ⌜ r ≡ touchesBy d ⌝ }
+{
+    match d {
+        triangles::Decision::Refused(_) => false,
+        triangles::Decision::Overlapping(_) => false,
+        triangles::Decision::Touching => true,
+        triangles::Decision::Apart => false,
+    }
+}
+
+// A decision in numbers: a refusal's number with zeros, or 0 with the kind and the area.
+pub fn said_of(d: triangles::Decision) -> triangles::Said
+    ensures { λ r. ⌜ r ≡ said d ⌝ }
+{
+    match d {
+        triangles::Decision::Refused(k) => triangles::Said {
+            number: k,
+            kind: 0,
+            area: 0.0,
+        },
+        triangles::Decision::Overlapping(a) => triangles::Said {
+            number: 0,
+            kind: 2,
+            area: a,
+        },
+        triangles::Decision::Touching => triangles::Said {
+            number: 0,
+            kind: 1,
+            area: 0.0,
+        },
+        triangles::Decision::Apart => triangles::Said {
+            number: 0,
+            kind: 0,
+            area: 0.0,
+        },
     }
 }

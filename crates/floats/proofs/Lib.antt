@@ -5,3 +5,4 @@ pub mod Zero
 pub mod Same
 pub mod First
 pub mod OneAnswer
+pub mod Sums

@@ -1,11 +1,14 @@
 -- Turns of the loops that count: one more decision, one more row. Assumes nothing.
 use Prim.Native.Nat.{ℕ, _+_}
 use mathlib.Core.Path.{_≡_, refl, sym, ap, ap₂, _∙_}
+use mathlib.Core.Bool.{Bool, false, _||_, true≢false}
 use mathlib.Core.List.{List, [], _∷_, _++_, map}
+use native.Mathlib.Omega.{arith}
 use native.Mathlib.Numerals.{add-one}
 use lib.Ieee.{Float}
 use Rattle.triangles.specs.declared.Decision.{Decision}
-use Rattle.triangles.specs.Decision.{decisionOf}
+use Rattle.triangles.specs.declared.Decision.the-variants.{Refused, Overlapping, Touching, Apart}
+use Rattle.triangles.specs.Decision.{decisionOf, overlaps, touches}
 use Rattle.shapes.specs.declared.Shape.{Shape}
 use Rattle.shapes.specs.Shapes.{twelve}
 use Rattle.listing.specs.declared.Tally.{Tally}
@@ -17,9 +20,22 @@ use Rattle.leaklist.specs.Code.{shapeIn, decisionIn, rowIn, tallyIn}
 one-more : (n : ℕ) → upTo (n + 1) ≡ upTo n ++ (n ∷ [])
 one-more n = ap upTo (add-one n) ∙ (unfold upTo in refl)
 
--- a tally by its count
-unfoldable pub tallyBy : ℕ → Tally
-tallyBy n = record { meeting = n }
+-- a tally by its counts
+abbrev tallyBy : ℕ → ℕ → Tally
+tallyBy n t = record { overlapping = n; touching = t }
+
+pub tally-same : {a b c d : ℕ} → a ≡ c → b ≡ d → tallyBy a b ≡ tallyBy c d
+tally-same p q = rw (p, q) refl
+
+-- a pair that neither overlaps nor touches adds nothing
+pub none-added : (t : Tally) (d : Decision) {o p : Bool} → o ≡ overlaps d → p ≡ touches d → (o || p) ≡ false → t ≡ tallied t d
+none-added t d {o} {p} ho hp h = go d (sym (ap₂ _||_ ho hp) ∙ h)
+  where
+    go : (d : Decision) → (overlaps d || touches d) ≡ false → t ≡ tallied t d
+    go (Refused k) h = absurd (true≢false h)
+    go (Overlapping a) h = absurd (true≢false h)
+    go Touching h = absurd (true≢false h)
+    go Apart h = tally-same (omega arith) (omega arith)
 
 module _ (table : List Float) where
   pub row-none : (t : Tally) (i j : ℕ) → t ≡ folded tallied t (rowIn table i j 0)

@@ -1,4 +1,4 @@
--- The leaks that are gathered are those of the rules: counts from the table are counts from the file, and pair by pair, row by row, all leaks come in table order. Assumes nothing.
+-- What is gathered is what there is by the rules: counts from the table are counts from the file, and pair by pair, row by row, all leaks come in table order, and all that only touch are counted. Assumes nothing.
 use Prim.Native.Nat.{ℕ, zero, suc, _+_, _-_, _*_, _/_, _<_, _≤_}
 use mathlib.Core.Path.{_≡_, refl, sym, ap, ap₂, subst, _∙_}
 use mathlib.Core.Bool.{Bool, true, false, cond}
@@ -8,7 +8,7 @@ use native.Mathlib.Numerals.{add-one}
 use borrow.Author.Tests.{eq-eqb, ne-eqb}
 use lib.ListN.{length}
 use lib.Ieee.{Float}
-use Rattle.floats.specs.Lists.{filter}
+use Rattle.floats.specs.Lists.{filter, once}
 use Rattle.floats.proofs.Lists.{filter-append}
 use Rattle.triangles.specs.Decision.{decisionOf}
 use Rattle.shapes.specs.Shapes.{Made, twelve}
@@ -20,11 +20,11 @@ use Rattle.layout.specs.Inside.{Inside}
 use Rattle.layout.proofs.Inside.{parts-inside}
 use Rattle.listing.specs.declared.Tally.{Tally}
 use Rattle.listing.specs.Turns.{upTo, each, folded}
-use Rattle.listing.specs.Pairs.{isTest, isTraining, placeIn, coordinatesAt, decisionAt, decisions, noneYet, tallied, tallyOf}
-use Rattle.listing.specs.Leaks.{Leak, tests, trainings, recordingPairs, pairsMeeting, isLeak, leakPairs, leakOf, leaks}
+use Rattle.listing.specs.Pairs.{isTest, isTraining, placeIn, coordinatesAt, decisionAt, decisions, noneYet, tallied, tallyOf, onlyTouch}
+use Rattle.listing.specs.Leaks.{Leak, tests, trainings, recordingPairs, tallyFor, isLeak, leakPairs, leakOf, leaks, isTouching, touchingPairs, touching}
 use Rattle.listing.proofs.Turns.{below, map-append, each-append}
 use Rattle.writing.specs.Triples.{leaksIn}
-use Rattle.leaklist.specs.Code.{shapeFrom, MadeFrom, Prepared, decisionIn, rowIn, tallyIn, Gathering, leakOn, itemOf, rowTo, testOf, listTo}
+use Rattle.leaklist.specs.Code.{shapeFrom, MadeFrom, Prepared, decisionIn, rowIn, tallyIn, Gathering, Found, foundIn, nothing, together, leakOn, foundOn, foundFor, itemOf, rowTo, testOf, listTo, foundByRules}
 
 -- ---- the recording's triangles by number
 module _ (file : List ℕ) (good : Layout file) (i : ℕ) (there-is : i < countOf file) where
@@ -95,10 +95,10 @@ module _ (file : List ℕ) (table : List Float) (g : Gathering file table) (i j 
   unfolding rowIn
   row-is a h = map-same (λ b. decisionIn table (test .first / 24 + a) (train .first / 24 + b)) (decisionAt file test train a) (upTo (train .count)) (λ b m. pair-is a b h (below (train .count) m))
 
-  -- the count from the table is N
-  pub count-is : tallyIn table (test .first / 24) (test .count) (train .first / 24) (train .count) .meeting ≡ pairsMeeting file (i, j)
-  unfolding tallyIn pairsMeeting tallyOf decisions
-  count-is = ap (λ ds. folded tallied noneYet ds .meeting) (each-same (λ a. rowIn table (test .first / 24 + a) (train .first / 24) (train .count)) (λ a. map (decisionAt file test train a) (upTo (train .count))) (upTo (test .count)) (λ a m. row-is a (below (test .count) m)))
+  -- what is counted from the table is what is counted from the file
+  pub count-is : tallyIn table (test .first / 24) (test .count) (train .first / 24) (train .count) ≡ tallyFor file (i, j)
+  unfolding tallyIn tallyFor tallyOf decisions
+  count-is = ap (folded tallied noneYet) (each-same (λ a. rowIn table (test .first / 24 + a) (train .first / 24) (train .count)) (λ a. map (decisionAt file test train a) (upTo (train .count))) (upTo (test .count)) (λ a m. row-is a (below (test .count) m)))
 
 -- ---- as the code comes to it: two entries as they were read
 module _ (file : List ℕ) (table : List Float) (g : Gathering file table) (i j : ℕ) (hi : i < countOf file) (hj : j < countOf file) where
@@ -110,71 +110,101 @@ module _ (file : List ℕ) (table : List Float) (g : Gathering file table) (i j 
       let few = few-triangles file (g .good) in
       rw (p, q) (all-made file table g (entryAt file i .first / 24) (entryAt file i .count) a, all-made file table g (entryAt file j .first / 24) (entryAt file j .count) b, omega (arith, a, few), omega (arith, b, few), g .size)
 
-  pub count-by : {e f : Entry} {t : Tally} → e ≡ entryAt file i → f ≡ entryAt file j → t ≡ tallyIn table (e .first / 24) (e .count) (f .first / 24) (f .count) → t .meeting ≡ pairsMeeting file (i, j)
-  count-by p q h = ap (λ t. t .meeting) (h ∙ ap₂ (λ e f. tallyIn table (e .first / 24) (e .count) (f .first / 24) (f .count)) p q) ∙ count-is file table g i j hi hj
+  pub count-by : {e f : Entry} {t : Tally} → e ≡ entryAt file i → f ≡ entryAt file j → t ≡ tallyIn table (e .first / 24) (e .count) (f .first / 24) (f .count) → t ≡ tallyFor file (i, j)
+  count-by p q h = h ∙ (ap₂ (λ e f. tallyIn table (e .first / 24) (e .count) (f .first / 24) (f .count)) p q ∙ count-is file table g i j hi hj)
 
 -- ---- an entry as it is read
 pub entry-is : (file : List ℕ) (i at : ℕ) {r : Entry} → at ≡ tablePlace file → r ≡ entryFrom file (at + 12 * i) → r ≡ entryAt file i
 unfolding entryAt entryPlace
 entry-is file i at h p = p ∙ ap (λ t. entryFrom file (t + 12 * i)) h
 
+-- ---- one after the other
+abbrev foundBy : List Leak → ℕ → Found
+foundBy ls t = record { leaks = ls; touching = t }
+
+found-same : {ls ms : List Leak} {t u : ℕ} → ls ≡ ms → t ≡ u → foundBy ls t ≡ foundBy ms u
+found-same p q = rw (p, q) refl
+
+assoc : (a b c : Found) → together (together a b) c ≡ together a (together b c)
+assoc a b c = found-same (append-assoc (a .leaks) (b .leaks) (c .leaks)) (omega arith)
+
+none-behind : (a : Found) → together a nothing ≡ a
+none-behind a = found-same (append-nil (a .leaks)) (omega arith)
+
+none-before : (a : Found) → together nothing a ≡ a
+none-before a = found-same refl (omega arith)
+
 -- ---- pair by pair
 module _ (file : List ℕ) (i j : ℕ) where
-  pub no-item : {f : Entry} → f ≡ entryAt file j → (f .set ≡ 0 → ⊥) → [] ≡ itemOf file i j
+  pub no-item : {f : Entry} → f ≡ entryAt file j → (f .set ≡ 0 → ⊥) → nothing ≡ itemOf file i j
   unfolding itemOf
   no-item h z = sym (rw (ne-eqb (entryAt file j .set) 0 (λ e. z (ap (λ x. x .set) h ∙ e))) refl)
 
-  pub an-item : {e f : Entry} {n : ℕ} → e ≡ entryAt file i → f ≡ entryAt file j → f .set ≡ 0 → n ≡ pairsMeeting file (i, j) → leakOn (e .id) (f .id) n ≡ itemOf file i j
-  unfolding itemOf leakOf
-  an-item {e} {f} {n} he hf z hn = rw (he, hf, hn, eq-eqb (entryAt file j .set) 0 (ap (λ x. x .set) (sym hf) ∙ z)) refl
+  pub an-item : {e f : Entry} {t : Tally} → e ≡ entryAt file i → f ≡ entryAt file j → f .set ≡ 0 → t ≡ tallyFor file (i, j) → foundOn (e .id) (f .id) t ≡ itemOf file i j
+  unfolding itemOf foundFor
+  an-item {e} {f} {t} he hf z ht = rw (he, hf, ht, eq-eqb (entryAt file j .set) 0 (ap (λ x. x .set) (sym hf) ∙ z)) refl
 
--- one after the other: what is gathered in several steps
-pub with-nothing : {ls items : List Leak} → [] ≡ items → ls ≡ ls ++ items
-with-nothing {ls} h = sym (ap (λ x. ls ++ x) (sym h) ∙ append-nil ls)
+-- a leak added, and one more that only touches, if they do
+pub pair-added : (before : Found) (test train : ℕ) (t : Tally) {ls : List Leak} {more n : ℕ} → ls ≡ before .leaks ++ leakOn test train t → more ≡ once (onlyTouch t) → n ≡ before .touching + more → foundBy ls n ≡ together before (foundOn test train t)
+pair-added before test train t p q r = found-same p (r ∙ ap (λ k. before .touching + k) q)
 
-pub row-none : (file : List ℕ) (i : ℕ) (ls : List Leak) → ls ≡ ls ++ rowTo file i 0
+-- what is gathered in several steps
+pub with-nothing : (a : Found) {item : Found} → nothing ≡ item → a ≡ together a item
+with-nothing a h = sym (none-behind a) ∙ ap (together a) h
+
+pub row-none : (file : List ℕ) (i : ℕ) (a : Found) → a ≡ together a (rowTo file i 0)
 unfolding rowTo
-row-none file i ls = sym (append-nil ls)
+row-none file i a = sym (none-behind a)
 
-pub row-turn : (file : List ℕ) (i j : ℕ) (ls : List Leak) {ms ns : List Leak} → ms ≡ ls ++ rowTo file i j → ns ≡ ms ++ itemOf file i j → ns ≡ ls ++ rowTo file i (j + 1)
-row-turn file i j ls p q = q ∙ (ap (λ x. x ++ itemOf file i j) p ∙ (append-assoc ls (rowTo file i j) (itemOf file i j) ∙ ap (λ r. ls ++ r) (last ∙ ap (rowTo file i) (sym (add-one j)))))
+pub row-turn : (file : List ℕ) (i j : ℕ) (a : Found) {b c : Found} → b ≡ together a (rowTo file i j) → c ≡ together b (itemOf file i j) → c ≡ together a (rowTo file i (j + 1))
+row-turn file i j a p q = q ∙ (ap (λ x. together x (itemOf file i j)) p ∙ (assoc a (rowTo file i j) (itemOf file i j) ∙ ap (together a) (last ∙ ap (rowTo file i) (sym (add-one j)))))
   where
-    last : rowTo file i j ++ itemOf file i j ≡ rowTo file i (suc j)
+    last : together (rowTo file i j) (itemOf file i j) ≡ rowTo file i (suc j)
     last = unfold rowTo in refl
 
-pub no-test : (file : List ℕ) (i : ℕ) {e : Entry} → e ≡ entryAt file i → (e .set ≡ 1 → ⊥) → [] ≡ testOf file i
+pub no-test : (file : List ℕ) (i : ℕ) {e : Entry} → e ≡ entryAt file i → (e .set ≡ 1 → ⊥) → nothing ≡ testOf file i
 unfolding testOf
 no-test file i h z = sym (rw (ne-eqb (entryAt file i .set) 1 (λ q. z (ap (λ x. x .set) h ∙ q))) refl)
 
-pub a-test : (file : List ℕ) (i : ℕ) (ls : List Leak) {e : Entry} {ms : List Leak} → e ≡ entryAt file i → e .set ≡ 1 → ms ≡ ls ++ rowTo file i (countOf file) → ms ≡ ls ++ testOf file i
+pub a-test : (file : List ℕ) (i : ℕ) (a : Found) {e : Entry} {b : Found} → e ≡ entryAt file i → e .set ≡ 1 → b ≡ together a (rowTo file i (countOf file)) → b ≡ together a (testOf file i)
 unfolding testOf
-a-test file i ls h z p = p ∙ ap (λ r. ls ++ r) (sym (rw (eq-eqb (entryAt file i .set) 1 (ap (λ x. x .set) (sym h) ∙ z)) refl))
+a-test file i a h z p = p ∙ ap (together a) (sym (rw (eq-eqb (entryAt file i .set) 1 (ap (λ x. x .set) (sym h) ∙ z)) refl))
 
-pub list-none : (file found : List ℕ) → leaksIn found 0 ≡ listTo file 0
+pub list-none : (file found : List ℕ) → foundIn found (record { leaks = 0; touching = 0 }) ≡ listTo file 0
 unfolding leaksIn listTo
 list-none file found = refl
 
-pub list-turn : (file : List ℕ) (i : ℕ) {ms ns : List Leak} → ms ≡ listTo file i → ns ≡ ms ++ testOf file i → ns ≡ listTo file (i + 1)
-list-turn file i p q = q ∙ (ap (λ x. x ++ testOf file i) p ∙ (last ∙ ap (listTo file) (sym (add-one i))))
+pub list-turn : (file : List ℕ) (i : ℕ) {b c : Found} → b ≡ listTo file i → c ≡ together b (testOf file i) → c ≡ listTo file (i + 1)
+list-turn file i p q = q ∙ (ap (λ x. together x (testOf file i)) p ∙ (last ∙ ap (listTo file) (sym (add-one i))))
   where
-    last : listTo file i ++ testOf file i ≡ listTo file (suc i)
+    last : together (listTo file i) (testOf file i) ≡ listTo file (suc i)
     last = unfold listTo in refl
 
--- ---- and all of them are the leaks of the rules
-filter-each : {A B : Type 0} (p : B → Bool) (f : A → List B) (xs : List A) → filter p (each f xs) ≡ each (λ x. filter p (f x)) xs
-unfolding each filter
-filter-each p f [] = refl
-filter-each p f (x ∷ xs) = filter-append p (f x) (each f xs) ∙ ap (λ r. filter p (f x) ++ r) (filter-each p f xs)
-
-map-each : {A B C : Type 0} (h : B → C) (f : A → List B) (xs : List A) → map h (each f xs) ≡ each (λ x. map h (f x)) xs
-unfolding each
-map-each h f [] = refl
-map-each h f (x ∷ xs) = map-append h (f x) (each f xs) ∙ ap (λ r. map h (f x) ++ r) (map-each h f xs)
-
+-- ---- and all of it is what there is by the rules
 module _ (file : List ℕ) where
-  -- the leaks of test recording i, as the rules have them, with the first n recordings
-  rowBy : ℕ → List ℕ → List Leak
-  rowBy i js = map (leakOf file) (filter (isLeak file) (map (λ j. (i, j)) js))
+  -- of these pairs of recordings
+  over : List (ℕ × ℕ) → Found
+  over [] = nothing
+  over (p ∷ ps) = together (foundFor file p) (over ps)
+
+  over-append : (ps qs : List (ℕ × ℕ)) → over (ps ++ qs) ≡ together (over ps) (over qs)
+  unfolding over
+  over-append [] qs = sym (none-before (over qs))
+  over-append (p ∷ ps) qs = ap (together (foundFor file p)) (over-append ps qs) ∙ sym (assoc (foundFor file p) (over ps) (over qs))
+
+  -- the leaks among them, and those that only touch
+  over-is : (ps : List (ℕ × ℕ)) → over ps ≡ foundBy (map (leakOf file) (filter (isLeak file) ps)) (length (filter (isTouching file) ps))
+  unfolding over filter
+  over-is [] = refl
+  over-is (p ∷ ps) = ap (together (foundFor file p)) (over-is ps) ∙ (unfold foundFor leakOf in go (isLeak file p) (isTouching file p))
+    where
+      go : (b c : Bool) →
+          together (foundBy (cond b (record { test = entryAt file (p .0) .id; train = entryAt file (p .1) .id; pairs = tallyFor file p .overlapping } ∷ []) []) (once c)) (foundBy (map (leakOf file) (filter (isLeak file) ps)) (length (filter (isTouching file) ps)))
+          ≡ foundBy (map (leakOf file) (cond b (p ∷ filter (isLeak file) ps) (filter (isLeak file) ps))) (length (cond c (p ∷ filter (isTouching file) ps) (filter (isTouching file) ps)))
+      go true true = unfold leakOf in found-same refl (omega arith)
+      go true false = unfold leakOf in found-same refl (omega arith)
+      go false true = found-same refl (omega arith)
+      go false false = found-same refl (omega arith)
 
   abbrev trainingAt : ℕ → Bool
   trainingAt j = isTraining (entryAt file j)
@@ -182,49 +212,49 @@ module _ (file : List ℕ) where
   abbrev testAt : ℕ → Bool
   testAt i = isTest (entryAt file i)
 
-  row-append : (i : ℕ) (js ks : List ℕ) → rowBy i (js ++ ks) ≡ rowBy i js ++ rowBy i ks
-  unfolding rowBy
-  row-append i js ks =
-      ap (λ l. map (leakOf file) (filter (isLeak file) l)) (map-append (λ j. (i, j)) js ks)
-      ∙ (ap (map (leakOf file)) (filter-append (isLeak file) (map (λ j. (i, j)) js) (map (λ j. (i, j)) ks)) ∙ map-append (leakOf file) (filter (isLeak file) (map (λ j. (i, j)) js)) (filter (isLeak file) (map (λ j. (i, j)) ks)))
+  -- recording i with these
+  abbrev pairsWith : ℕ → List ℕ → List (ℕ × ℕ)
+  pairsWith i js = map (λ j. (i, j)) js
 
-  one-item : (i j : ℕ) → rowBy i (filter trainingAt (j ∷ [])) ≡ itemOf file i j
-  unfolding rowBy itemOf filter
-  one-item i j = go (trainingAt j) (isLeak file (i, j)) refl
+  one-item : (i j : ℕ) → over (pairsWith i (filter trainingAt (j ∷ []))) ≡ itemOf file i j
+  unfolding over itemOf filter
+  one-item i j = go (trainingAt j)
     where
-      go : (b c : Bool) → isLeak file (i, j) ≡ c → map (leakOf file) (filter (isLeak file) (map (λ j. (i, j)) (cond b (j ∷ []) []))) ≡ cond b (cond (isLeak file (i, j)) (leakOf file (i, j) ∷ []) []) []
-      go true true e = rw e refl
-      go true false e = rw e refl
-      go false c e = refl
+      go : (b : Bool) → over (pairsWith i (cond b (j ∷ []) [])) ≡ cond b (foundFor file (i, j)) nothing
+      go true = none-behind (foundFor file (i, j))
+      go false = refl
 
-  row-all : (i n : ℕ) → rowBy i (filter trainingAt (upTo n)) ≡ rowTo file i n
+  row-all : (i n : ℕ) → over (pairsWith i (filter trainingAt (upTo n))) ≡ rowTo file i n
   unfolding upTo rowTo
-  row-all i zero = unfold rowBy filter in refl
-  row-all i (suc n) = ap (rowBy i) (filter-append trainingAt (upTo n) (n ∷ [])) ∙ (row-append i (filter trainingAt (upTo n)) (filter trainingAt (n ∷ [])) ∙ ap₂ _++_ (row-all i n) (one-item i n))
+  row-all i zero = unfold over filter in refl
+  row-all i (suc n) =
+      ap (λ js. over (pairsWith i js)) (filter-append trainingAt (upTo n) (n ∷ []))
+      ∙ (ap over (map-append (λ j. (i, j)) (filter trainingAt (upTo n)) (filter trainingAt (n ∷ [])))
+      ∙ (over-append (pairsWith i (filter trainingAt (upTo n))) (pairsWith i (filter trainingAt (n ∷ []))) ∙ ap₂ together (row-all i n) (one-item i n)))
 
-  -- those of one recording, if it is a test recording
-  one-test : (i : ℕ) → each (λ i. rowTo file i (countOf file)) (filter testAt (i ∷ [])) ≡ testOf file i
+  -- test recordings with all training recordings
+  abbrev rows : List ℕ → List (ℕ × ℕ)
+  rows is = each (λ i. pairsWith i (filter trainingAt (upTo (countOf file)))) is
+
+  one-test : (i : ℕ) → over (rows (filter testAt (i ∷ []))) ≡ testOf file i
   unfolding filter each testOf
   one-test i = go (testAt i)
     where
-      go : (b : Bool) → each (λ i. rowTo file i (countOf file)) (cond b (i ∷ []) []) ≡ cond b (rowTo file i (countOf file)) []
-      go true = append-nil (rowTo file i (countOf file))
-      go false = refl
+      go : (b : Bool) → over (rows (cond b (i ∷ []) [])) ≡ cond b (rowTo file i (countOf file)) nothing
+      go true = ap over (append-nil (pairsWith i (filter trainingAt (upTo (countOf file))))) ∙ row-all i (countOf file)
+      go false = unfold over in refl
 
-  list-all : (n : ℕ) → each (λ i. rowTo file i (countOf file)) (filter testAt (upTo n)) ≡ listTo file n
+  list-all : (n : ℕ) → over (rows (filter testAt (upTo n))) ≡ listTo file n
   unfolding upTo listTo
-  list-all zero = unfold filter each in refl
-  list-all (suc n) = ap (each (λ i. rowTo file i (countOf file))) (filter-append testAt (upTo n) (n ∷ [])) ∙ (each-append (λ i. rowTo file i (countOf file)) (filter testAt (upTo n)) (filter testAt (n ∷ [])) ∙ ap₂ _++_ (list-all n) (one-test n))
+  list-all zero = unfold filter each over in refl
+  list-all (suc n) =
+      ap (λ is. over (rows is)) (filter-append testAt (upTo n) (n ∷ []))
+      ∙ (ap over (each-append (λ i. pairsWith i (filter trainingAt (upTo (countOf file)))) (filter testAt (upTo n)) (filter testAt (n ∷ [])))
+      ∙ (over-append (rows (filter testAt (upTo n))) (rows (filter testAt (n ∷ []))) ∙ ap₂ together (list-all n) (one-test n)))
 
-  pub gathered : listTo file (countOf file) ≡ leaks file
-  unfolding leaks leakPairs recordingPairs tests trainings
-  gathered =
-      sym (ap (map (leakOf file)) (filter-each (isLeak file) pairsOf (tests file))
-      ∙ (map-each (leakOf file) (λ i. filter (isLeak file) (pairsOf i)) (tests file)
-      ∙ (each-same (λ i. map (leakOf file) (filter (isLeak file) (pairsOf i))) (λ i. rowTo file i (countOf file)) (tests file) (λ i m. unfold rowBy in row-all i (countOf file)) ∙ list-all (countOf file))))
-    where
-      pairsOf : ℕ → List (ℕ × ℕ)
-      pairsOf i = map (λ j. (i, j)) (trainings file)
+  pub gathered : listTo file (countOf file) ≡ foundByRules file
+  unfolding leaks leakPairs touching touchingPairs recordingPairs tests trainings
+  gathered = sym (list-all (countOf file)) ∙ over-is (recordingPairs file)
 
 -- ---- the trailer's numbers as they are read
 pub table-read : (file : List ℕ) {at : ℕ} → at ≡ u32At file (length file - 12) → at ≡ tablePlace file

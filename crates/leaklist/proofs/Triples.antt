@@ -1,12 +1,14 @@
--- One more leak, stored as three numbers behind those before it; none, where nothing meets. Assumes nothing.
+-- One more leak, stored as three numbers behind those before it; none, where the two recordings do not leak. Assumes nothing.
 use Prim.Native.Nat.{ℕ, zero, suc, _+_, _*_, _<_, _≤_}
 use mathlib.Core.Path.{_≡_, refl, sym, ap, ap₂, _∙_}
+use mathlib.Core.Bool.{Bool, true, false}
 use mathlib.Core.List.{List, [], _∷_, _++_, append-nil}
 use native.Mathlib.Omega.{arith}
 use native.Mathlib.Numerals.{add-one}
-use borrow.Author.Tests.{lt-ltb, le-ltb}
 use lib.ListN.{length, getD, set, length-set}
 use lib.Seq.{getD-set-same, getD-set-other}
+use Rattle.listing.specs.declared.Tally.{Tally}
+use Rattle.listing.specs.Pairs.{leak}
 use Rattle.listing.specs.Leaks.{Leak}
 use Rattle.writing.specs.Triples.{leakAt, leaksIn}
 use Rattle.leaklist.specs.Code.{leakOn}
@@ -29,16 +31,9 @@ leaks-suc : (l : List ℕ) (k : ℕ) → leaksIn l (k + 1) ≡ leaksIn l k ++ (l
 unfolding leaksIn
 leaks-suc l k = ap (leaksIn l) (add-one k)
 
-pub added : (l : List ℕ) (k t r n : ℕ) → 3 * k + 3 ≤ length l → (n ≡ 0 → ⊥) → leaksIn (set (set (set l (3 * k) t) (3 * k + 1) r) (3 * k + 2) n) (k + 1) ≡ leaksIn l k ++ leakOn t r n
-unfolding leakBy
-added l k t r n fits some =
-    leaks-suc l3 k
-    ∙ ap₂ _++_ (kept-to k k l l3 (omega arith) same) (ap (λ x. x ∷ []) (leak-same first second third) ∙ sym (rw (lt-ltb 0 n (positive n some)) refl))
+three-more : (l : List ℕ) (k t r n : ℕ) → 3 * k + 3 ≤ length l → leaksIn (set (set (set l (3 * k) t) (3 * k + 1) r) (3 * k + 2) n) (k + 1) ≡ leaksIn l k ++ (leakBy t r n ∷ [])
+three-more l k t r n fits = leaks-suc l3 k ∙ ap₂ _++_ (kept-to k k l l3 (omega arith) same) (unfold leakBy in ap (λ x. x ∷ []) (leak-same first second third))
   where
-    positive : (n : ℕ) → (n ≡ 0 → ⊥) → 0 < n
-    positive zero h = absurd (h refl)
-    positive (suc n) h = omega arith
-
     l1 : List ℕ
     l1 = set l (3 * k) t
 
@@ -72,5 +67,9 @@ added l k t r n fits some =
     third : getD (set (set (set l (3 * k) t) (3 * k + 1) r) (3 * k + 2) n) (3 * k + 2) 0 ≡ n
     third = getD-set-same (set (set l (3 * k) t) (3 * k + 1) r) (3 * k + 2) n 0 (omega (arith, fits, len2))
 
-pub not-added : (l : List ℕ) (k t r n : ℕ) → n ≡ 0 → leaksIn l k ≡ leaksIn l k ++ leakOn t r n
-not-added l k t r n z = sym (ap (λ x. leaksIn l k ++ x) (rw (le-ltb 0 n (omega (arith, z))) refl) ∙ append-nil (leaksIn l k))
+pub added : (l : List ℕ) (k test train : ℕ) (t : Tally) {b : Bool} → b ≡ leak t → b ≡ true → 3 * k + 3 ≤ length l → leaksIn (set (set (set l (3 * k) test) (3 * k + 1) train) (3 * k + 2) (t .overlapping)) (k + 1) ≡ leaksIn l k ++ leakOn test train t
+unfolding leakBy
+added l k test train t e h fits = three-more l k test train (t .overlapping) fits ∙ ap (λ x. leaksIn l k ++ x) (sym (rw (sym e ∙ h) refl))
+
+pub not-added : (l : List ℕ) (k test train : ℕ) (t : Tally) {b : Bool} → b ≡ leak t → b ≡ false → leaksIn l k ≡ leaksIn l k ++ leakOn test train t
+not-added l k test train t e h = sym (ap (λ x. leaksIn l k ++ x) (rw (sym e ∙ h) refl) ∙ append-nil (leaksIn l k))

@@ -1,10 +1,8 @@
--- The list of the leaks that were gathered, in the room or refused, is the list of the rules, and what is told of a file is that list or the line of its refusal. Assumes nothing.
+-- The list of what was gathered, in the room or refused, is the list of the rules, and what is told of a file is that list or the line of its refusal. Assumes nothing.
 use Prim.Native.Nat.{ℕ, _≤_}
-use mathlib.Core.Path.{_≡_, refl, sym, ap, subst, _∙_}
-use mathlib.Core.Bool.{cond}
-use mathlib.Core.List.{List, [], append-nil}
+use mathlib.Core.Path.{_≡_, refl, sym, ap, ap₂, subst, _∙_}
+use mathlib.Core.List.{List, []}
 use native.Mathlib.Omega.{arith}
-use lib.Dec.{ltb}
 use borrow.Author.Tests.{eq-eqb, ne-eqb}
 use lib.ListN.{length}
 use Rattle.text.specs.Room.{laid, Put}
@@ -14,29 +12,25 @@ use Rattle.layout.specs.declared.Verdict.{Verdict}
 use Rattle.layout.specs.Layout.{Layout}
 use Rattle.layout.proofs.Returned.{is-good}
 use Rattle.listing.specs.declared.Listed.{Listed}
-use Rattle.listing.specs.Leaks.{leaks}
+use Rattle.listing.specs.declared.Counts.{Counts}
 use Rattle.listing.specs.Words.{listText, refusedLine}
-use Rattle.listing.specs.Listing.{noList, tooShort, listIn, listOf}
+use Rattle.listing.specs.Listing.{noList, listFrom, listOf}
 use Rattle.listing.specs.Promise.{ListPromise}
 use Rattle.listing.proofs.Returned.{by-file, past-file, by-list, returned-one}
-use Rattle.writing.specs.Triples.{leaksIn, heldIn, textOf, listFrom, WrittenAs}
+use Rattle.writing.specs.Triples.{leaksIn, heldIn, WrittenAs}
 use Rattle.writing.proofs.Written.{held-all}
-use Rattle.leaklist.specs.Code.{toldOf}
+use Rattle.leaklist.specs.Code.{Found, foundIn, foundByRules, toldOf}
 
 -- ---- the list of a good file
-text-of-leaks : (file : List ℕ) → listText file ≡ textOf (leaks file)
-unfolding listText
-text-of-leaks file = append-nil (textOf (leaks file))
-
-same-whole : (file room : List ℕ) → verdict file .number ≡ 0 → listOf file room ≡ listFrom (leaks file) room
-unfolding listFrom
-same-whole file room z = past-file file room z ∙ ap (λ t. cond (ltb (length room) (length t)) (noList room tooShort) (listIn room t (length (leaks file)))) (text-of-leaks file)
-
-pub keeps : (file room found : List ℕ) (k : ℕ) {r : Listed} {after : List ℕ} → Layout file → leaksIn found k ≡ leaks file → WrittenAs (leaksIn found (heldIn found k)) room r after → k ≤ 4096 → length found ≡ 12288 → ListPromise file room r after
-keeps file room found k {r} {after} good h w most size =
-    let s = same-whole file room (is-good file good) in
-    let all = ap (leaksIn found) (held-all found k most (omega (arith, most, size))) ∙ h in
-    record { result-is = w .result-is ∙ (ap (λ l. listFrom l room .result) all ∙ ap (λ v. v .result) (sym s)); after-is = w .after-is ∙ (ap (λ l. listFrom l room .room) all ∙ ap (λ v. v .room) (sym s)) }
+pub keeps : (file room found : List ℕ) (c : Counts) {r : Listed} {after : List ℕ} → Layout file → foundIn found c ≡ foundByRules file → WrittenAs (leaksIn found (heldIn found (c .leaks))) (c .touching) room r after → c .leaks ≤ 4096 → length found ≡ 12288 → ListPromise file room r after
+keeps file room found c {r} {after} good h w most size =
+    let s = past-file file room (is-good file good) in
+    let ls = ap (leaksIn found) (held-all found (c .leaks) most (omega (arith, most, size))) ∙ ap (λ f. f .leaks) h in
+    let t = ap (λ f. f .touching) h in
+    record {
+      result-is = w .result-is ∙ (ap₂ (λ l n. listFrom l n room .result) ls t ∙ ap (λ v. v .result) (sym s));
+      after-is = w .after-is ∙ (ap₂ (λ l n. listFrom l n room .room) ls t ∙ ap (λ v. v .room) (sym s));
+    }
 
 -- ---- a refused file
 pub keeps-refusal : (file room : List ℕ) {v : Verdict} {r : Listed} → v ≡ verdict file → (v .number ≡ 0 → ⊥) → r ≡ noList [] (numberAt (v .number) (v .place)) .result → ListPromise file room r room
@@ -55,7 +49,7 @@ told-yes file room z = sym (rw (eq-eqb (listOf file room .result .number) 0 z) r
 
 pub told-refused : (file room : List ℕ) {a : Listed} {mid after : List ℕ} {r : ℕ} → ListPromise file room a mid → (a .number ≡ 0 → ⊥) → Put mid 0 (refusedLine (numberAt (a .number) (a .place))) after r → Put room 0 (toldOf file room) after r
 told-refused file room {a} {mid} {after} {r} p n q =
-    let same = returned-one file room a mid p .zeros n .2 in
+    let same = returned-one file room a mid p .zeros n .3 in
     subst (λ t. Put room 0 t after r) (told-no file room (p .result-is) n) (subst (λ m. Put m 0 (refusedLine (numberAt (a .number) (a .place))) after r) same q)
 
 pub told-list : (file room : List ℕ) {a : Listed} {after : List ℕ} → ListPromise file room a after → a .number ≡ 0 → Put room 0 (toldOf file room) after (a .length)

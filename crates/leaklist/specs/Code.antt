@@ -3,7 +3,7 @@ use Prim.Native.Nat.{ℕ, zero, suc, _+_, _*_, _<_}
 use mathlib.Core.Path.{_≡_}
 use mathlib.Core.Bool.{cond}
 use mathlib.Core.List.{List, [], _∷_, _++_, map}
-use lib.Dec.{ltb, eqb}
+use lib.Dec.{eqb}
 use lib.ListN.{length, getD}
 use lib.Ieee.{Float, nan}
 use Rattle.floats.specs.declared.Position.{Position}
@@ -15,12 +15,15 @@ use Rattle.layout.specs.Parts.{countOf, entryAt, trianglesOf}
 use Rattle.layout.specs.Layout.{Layout}
 use Rattle.layout.specs.Recordings.{f64At}
 use Rattle.layout.specs.Verdict.{numberAt}
+use Rattle.floats.specs.Lists.{once}
 use Rattle.listing.specs.declared.Tally.{Tally}
+use Rattle.listing.specs.declared.Counts.{Counts}
 use Rattle.listing.specs.Turns.{upTo, each, folded}
-use Rattle.listing.specs.Pairs.{isTest, isTraining, tallied, noneYet}
-use Rattle.listing.specs.Leaks.{Leak, isLeak, leakOf}
+use Rattle.listing.specs.Pairs.{isTest, isTraining, tallied, noneYet, leak, onlyTouch}
+use Rattle.listing.specs.Leaks.{Leak, tallyFor, leaks, touching}
 use Rattle.listing.specs.Words.{listText, refusedLine}
 use Rattle.listing.specs.Listing.{listOf}
+use Rattle.writing.specs.Triples.{leaksIn}
 
 -- ---- a prepared triangle in the table, and the same from the file
 abbrev pub elevenOf : Shape → List Float
@@ -74,32 +77,61 @@ pub record Gathering (file : List ℕ) (table : List Float) : Type 0 where
   pub size : length table ≡ 30030
   pub prepared : Prepared file (trianglesOf file) table
 
--- ---- leaks
--- two ids and N as a leak, where N is not 0
-abbrev pub leakOn : ℕ → ℕ → ℕ → List Leak
-leakOn test train n = cond (ltb 0 n) (record { test = test; train = train; pairs = n } ∷ []) []
+-- ---- what is found: leaks, and how many pairs of recordings only touch
+pub record Found : Type 0 where
+  pub leaks : List Leak
+  pub touching : ℕ
+
+-- as the code holds it: so many triples, and a count
+abbrev pub foundIn : List ℕ → Counts → Found
+foundIn found c = record { leaks = leaksIn found (c .leaks); touching = c .touching }
+
+abbrev pub nothing : Found
+nothing = record { leaks = []; touching = 0 }
+
+-- the one, and then the other
+abbrev pub together : Found → Found → Found
+together a b = record { leaks = a .leaks ++ b .leaks; touching = a .touching + b .touching }
+
+-- of two recordings with these ids, of which this is counted: the leak, if they leak
+abbrev pub leakOn : ℕ → ℕ → Tally → List Leak
+leakOn test train t = cond (leak t) (record { test = test; train = train; pairs = t .overlapping } ∷ []) []
+
+-- and what is found
+abbrev pub foundOn : ℕ → ℕ → Tally → Found
+foundOn test train t = record { leaks = leakOn test train t; touching = once (onlyTouch t) }
 
 module _ (file : List ℕ) where
-  -- the leak of the recordings i, a test recording, and j, if there is one
-  unfoldable pub itemOf : ℕ → ℕ → List Leak
-  itemOf i j = cond (isTraining (entryAt file j)) (cond (isLeak file (i, j)) (leakOf file (i, j) ∷ []) []) []
+  -- of a test and a training recording
+  unfoldable pub foundFor : ℕ × ℕ → Found
+  unfolding tallyFor
+  foundFor p = foundOn (entryAt file (p .0) .id) (entryAt file (p .1) .id) (tallyFor file p)
 
-  -- those of i and the first n recordings
-  unfoldable pub rowTo : ℕ → ℕ → List Leak
+  -- of the recordings i, a test recording, and j, if that is a training recording
+  unfoldable pub itemOf : ℕ → ℕ → Found
+  unfolding foundFor
+  itemOf i j = cond (isTraining (entryAt file j)) (foundFor (i, j)) nothing
+
+  -- of i and the first n recordings
+  unfoldable pub rowTo : ℕ → ℕ → Found
   unfolding itemOf
-  rowTo i zero = []
-  rowTo i (suc n) = rowTo i n ++ itemOf i n
+  rowTo i zero = nothing
+  rowTo i (suc n) = together (rowTo i n) (itemOf i n)
 
-  -- those of recording i, if it is a test recording, and all
-  unfoldable pub testOf : ℕ → List Leak
+  -- of recording i, if it is a test recording, and all
+  unfoldable pub testOf : ℕ → Found
   unfolding rowTo
-  testOf i = cond (isTest (entryAt file i)) (rowTo i (countOf file)) []
+  testOf i = cond (isTest (entryAt file i)) (rowTo i (countOf file)) nothing
 
-  -- those of the first n recordings and all
-  unfoldable pub listTo : ℕ → List Leak
+  -- of the first n recordings and all
+  unfoldable pub listTo : ℕ → Found
   unfolding testOf
-  listTo zero = []
-  listTo (suc n) = listTo n ++ testOf n
+  listTo zero = nothing
+  listTo (suc n) = together (listTo n) (testOf n)
+
+  -- of the whole file, by the rules
+  abbrev pub foundByRules : Found
+  foundByRules = record { leaks = leaks file; touching = touching file }
 
 -- ---- what is told of a file where the room is this one: the list, or how it is refused
 unfoldable pub toldOf : List ℕ → List ℕ → List ℕ

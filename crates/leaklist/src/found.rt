@@ -1,26 +1,28 @@
-// The leaks, in table order: three numbers each, two ids and N.
+// What is found of a file's recordings, in table order: each leak as three numbers, two ids and N; and how many pairs of recordings only touch.
 ghost use mathlib.Core.Path.{_≡_};
 ghost use mathlib.Core.List.{_++_};
-ghost use Prim.Native.Nat.{_+_, _≤_, _<_};
+ghost use Prim.Native.Nat.{_+_, _*_, _≤_, _<_};
 ghost use lib.ListN.{length};
 ghost use Rattle.layout.specs.Parts.{countOf, entryAt, tablePlace};
 ghost use Rattle.writing.specs.Triples.{leaksIn};
-ghost use Rattle.leaklist.specs.Code.{Gathering, leakOn, itemOf, rowTo, testOf, listTo};
+ghost use Rattle.leaklist.specs.Code.{Gathering, foundIn, together, leakOn, itemOf, rowTo, testOf, listTo};
+use crate::tallies::leak;
 use crate::tallies::tally;
+use crate::tallies::touching_in;
 
-// One more, if n is not 0; the place behind it.
-fn add(found: &mut [u32], k: usize, test: u32, train: u32, n: u32) -> usize
+// One more leak, if the two recordings leak; how many there are then.
+fn add(found: &mut [u32], k: u32, test: u32, train: u32, t: listing::Tally) -> u32
     requires { ⌜ (k < 4096) × (length (now found) ≡ 12288) ⌝ }
-    ensures { λ r. ⌜ (leaksIn (now (found .exit)) r ≡ leaksIn (now (found .entry)) k ++ leakOn test train n) × (r ≤ k + 1) ⌝ }
+    ensures { λ r. ⌜ (leaksIn (now (found .exit)) r ≡ leaksIn (now (found .entry)) k ++ leakOn test train t) × (r ≤ k + 1) ⌝ }
 {
-    if n == 0 {
-        return k;
+    if leak(t) {
+        let at = 3 * (k as usize);
+        found[at] = test;
+        found[at + 1] = train;
+        found[at + 2] = t.overlapping;
+        return k + 1;
     }
-    let at = 3 * k;
-    found[at] = test;
-    found[at + 1] = train;
-    found[at + 2] = n;
-    k + 1
+    k
 }
 
 // The test recording i with recording j.
@@ -28,18 +30,18 @@ fn add_pair(
     file: &[u8],
     table: &[f64],
     found: &mut [u32],
-    k: usize,
+    c: listing::Counts,
     i: usize,
     e: layout::Entry,
     at: usize,
     j: usize,
-) -> usize
-    requires { ⌜ Gathering (now file) (now table) × (i < countOf (now file)) × (e ≡ entryAt (now file) i) × (at ≡ tablePlace (now file)) × (j < countOf (now file)) × (k < 4096) × (length (now found) ≡ 12288) ⌝ }
-    ensures { λ r. ⌜ (leaksIn (now (found .exit)) r ≡ leaksIn (now (found .entry)) k ++ itemOf (now (file .entry)) i j) × (r ≤ k + 1) ⌝ }
+) -> listing::Counts
+    requires { ⌜ Gathering (now file) (now table) × (i < countOf (now file)) × (e ≡ entryAt (now file) i) × (at ≡ tablePlace (now file)) × (j < countOf (now file)) × (c .leaks < 4096) × (c .touching < 4096) × (length (now found) ≡ 12288) ⌝ }
+    ensures { λ r. ⌜ (foundIn (now (found .exit)) r ≡ together (foundIn (now (found .entry)) c) (itemOf (now (file .entry)) i j)) × (r .leaks ≤ c .leaks + 1) × (r .touching ≤ c .touching + 1) ⌝ }
 {
     let f = reading::entry_at(file, at + 12 * j);
     if f.set != 0 {
-        return k;
+        return c;
     }
     let t = tally(
         table,
@@ -48,7 +50,10 @@ fn add_pair(
         (f.first / 24) as usize,
         f.count as usize,
     );
-    add(found, k, e.id, f.id, t.meeting)
+    let more = touching_in(t);
+    let touching = c.touching + more;
+    let leaks = add(found, c.leaks, e.id, f.id, t);
+    listing::Counts { leaks, touching }
 }
 
 // The test recording i with each of `count` recordings.
@@ -56,16 +61,16 @@ fn add_row(
     file: &[u8],
     table: &[f64],
     found: &mut [u32],
-    k: usize,
+    c: listing::Counts,
     i: usize,
     e: layout::Entry,
     at: usize,
     count: usize,
-) -> usize
-    requires { ⌜ Gathering (now file) (now table) × (i < countOf (now file)) × (e ≡ entryAt (now file) i) × (at ≡ tablePlace (now file)) × (count ≡ countOf (now file)) × (k + 64 ≤ 4096) × (length (now found) ≡ 12288) ⌝ }
-    ensures { λ r. ⌜ (leaksIn (now (found .exit)) r ≡ leaksIn (now (found .entry)) k ++ rowTo (now (file .entry)) i (countOf (now (file .entry)))) × (r ≤ k + 64) ⌝ }
+) -> listing::Counts
+    requires { ⌜ Gathering (now file) (now table) × (i < countOf (now file)) × (e ≡ entryAt (now file) i) × (at ≡ tablePlace (now file)) × (count ≡ countOf (now file)) × (c .leaks + 64 ≤ 4096) × (c .touching + 64 ≤ 4096) × (length (now found) ≡ 12288) ⌝ }
+    ensures { λ r. ⌜ (foundIn (now (found .exit)) r ≡ together (foundIn (now (found .entry)) c) (rowTo (now (file .entry)) i (countOf (now (file .entry))))) × (r .leaks ≤ c .leaks + 64) × (r .touching ≤ c .touching + 64) ⌝ }
 {
-    let mut to = k;
+    let mut to = c;
     let mut j: usize = 0;
     while j < count {
         to = add_pair(file, table, found, to, i, e, at, j);
@@ -79,39 +84,42 @@ fn add_test(
     file: &[u8],
     table: &[f64],
     found: &mut [u32],
-    k: usize,
+    c: listing::Counts,
     i: usize,
     at: usize,
     count: usize,
-) -> usize
-    requires { ⌜ Gathering (now file) (now table) × (i < countOf (now file)) × (at ≡ tablePlace (now file)) × (count ≡ countOf (now file)) × (k + 64 ≤ 4096) × (length (now found) ≡ 12288) ⌝ }
-    ensures { λ r. ⌜ (leaksIn (now (found .exit)) r ≡ leaksIn (now (found .entry)) k ++ testOf (now (file .entry)) i) × (r ≤ k + 64) ⌝ }
+) -> listing::Counts
+    requires { ⌜ Gathering (now file) (now table) × (i < countOf (now file)) × (at ≡ tablePlace (now file)) × (count ≡ countOf (now file)) × (c .leaks + 64 ≤ 4096) × (c .touching + 64 ≤ 4096) × (length (now found) ≡ 12288) ⌝ }
+    ensures { λ r. ⌜ (foundIn (now (found .exit)) r ≡ together (foundIn (now (found .entry)) c) (testOf (now (file .entry)) i)) × (r .leaks ≤ c .leaks + 64) × (r .touching ≤ c .touching + 64) ⌝ }
 {
     let e = reading::entry_at(file, at + 12 * i);
     if e.set != 1 {
-        return k;
+        return c;
     }
-    add_row(file, table, found, k, i, e, at, count)
+    add_row(file, table, found, c, i, e, at, count)
 }
 
-// All leaks, in table order; how many.
+// Everything, in table order; how much.
 pub(crate) fn gather(
     file: &[u8],
     table: &[f64],
     found: &mut [u32],
     at: usize,
     count: usize,
-) -> usize
+) -> listing::Counts
     requires { ⌜ Gathering (now file) (now table) × (at ≡ tablePlace (now file)) × (count ≡ countOf (now file)) × (length (now found) ≡ 12288) ⌝ }
-    ensures { λ r. ⌜ (leaksIn (now (found .exit)) r ≡ listTo (now (file .entry)) (countOf (now (file .entry)))) × (r ≤ 4096) ⌝ }
+    ensures { λ r. ⌜ (foundIn (now (found .exit)) r ≡ listTo (now (file .entry)) (countOf (now (file .entry)))) × (r .leaks ≤ 4096) ⌝ }
 {
-    let mut k: usize = 0;
+    let mut c = listing::Counts {
+        leaks: 0,
+        touching: 0,
+    };
     let mut i: usize = 0;
     while i < count {
-        k = add_test(file, table, found, k, i, at, count);
+        c = add_test(file, table, found, c, i, at, count);
         i = i + 1;
     }
-    k
+    c
 }
 
 // Room for 64 times 64 leaks, more than any file has.

@@ -23,8 +23,8 @@ fn listed(file: &[u8], room: &mut [u8]) -> listing::Listed
     let mut table = no_shapes();
     prepare(&mut table, file, at / 24);
     let mut found = no_leaks();
-    let k = gather(file, &table, &mut found, at, count);
-    writing::write(room, &found, k)
+    let c = gather(file, &table, &mut found, at, count);
+    writing::write(room, &found, c)
 }
 
 // The leak list of a file's bytes, to the front of the room, or a refusal, with the room as it was: the file's own, or 7 where the room is shorter than the list.

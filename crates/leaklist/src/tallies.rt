@@ -1,11 +1,11 @@
-// Decisions of prepared triangles, counted.
+// Decisions of prepared triangles, counted, and what the counts make of two recordings.
 ghost use mathlib.Core.Path.{_≡_};
 ghost use Prim.Native.Nat.{_+_, _≤_, _<_};
 ghost use lib.ListN.{length};
 ghost use Rattle.floats.specs.Lists.{once};
 ghost use Rattle.shapes.specs.Shapes.{Made};
 ghost use Rattle.listing.specs.Turns.{folded};
-ghost use Rattle.listing.specs.Pairs.{tallied as talliedBy};
+ghost use Rattle.listing.specs.Pairs.{tallied as talliedBy, leak as leakBy, onlyTouch as onlyTouchBy};
 ghost use Rattle.leaklist.specs.Code.{shapeIn, MadeFrom, rowIn, tallyIn};
 use crate::prepared::shape_in;
 
@@ -15,20 +15,29 @@ fn one_if(test: bool) -> u32
     if test { 1 } else { 0 }
 }
 
-// One more decision counted.
+// One more decision counted. Most are apart, and add nothing.
 fn tallied(t: listing::Tally, d: triangles::Decision) -> listing::Tally
-    requires { ⌜ t .meeting < 4294967295 ⌝ }
-    ensures { λ r. ⌜ (r ≡ talliedBy t d) × (r .meeting ≤ t .meeting + 1) ⌝ }
+    requires { ⌜ (t .overlapping < 4294967295) × (t .touching < 4294967295) ⌝ }
+    ensures { λ r. ⌜ (r ≡ talliedBy t d) × (r .overlapping ≤ t .overlapping + 1) × (r .touching ≤ t .touching + 1) ⌝ }
 {
-    let more = one_if(decisions::meets(d));
-    let meeting = t.meeting + more;
-    listing::Tally { meeting }
+    let overlaps = decisions::overlaps(d);
+    let touches = decisions::touches(d);
+    if overlaps | touches {
+        let more = one_if(overlaps);
+        let overlapping = t.overlapping + more;
+        let touching = t.touching + one_if(touches);
+        return listing::Tally {
+            overlapping,
+            touching,
+        };
+    }
+    t
 }
 
 // Triangle i with n triangles from j on, counted to t.
 fn row(table: &[f64], t: listing::Tally, i: usize, j: usize, n: usize) -> listing::Tally
-    requires { ⌜ Made (shapeIn (now table) i) × MadeFrom (now table) j n × (i < 2730) × (j + n ≤ 2730) × (length (now table) ≡ 30030) × (t .meeting + n ≤ 4294967295) ⌝ }
-    ensures { λ r. ⌜ (r ≡ folded talliedBy t (rowIn (now (table .entry)) i j n)) × (r .meeting ≤ t .meeting + n) ⌝ }
+    requires { ⌜ Made (shapeIn (now table) i) × MadeFrom (now table) j n × (i < 2730) × (j + n ≤ 2730) × (length (now table) ≡ 30030) × (t .overlapping + n ≤ 4294967295) × (t .touching + n ≤ 4294967295) ⌝ }
+    ensures { λ r. ⌜ (r ≡ folded talliedBy t (rowIn (now (table .entry)) i j n)) × (r .overlapping ≤ t .overlapping + n) × (r .touching ≤ t .touching + n) ⌝ }
 {
     let u = shape_in(table, i);
     let mut sum = t;
@@ -46,11 +55,35 @@ pub(crate) fn tally(table: &[f64], i: usize, m: usize, j: usize, n: usize) -> li
     requires { ⌜ MadeFrom (now table) i m × MadeFrom (now table) j n × (i + m ≤ 2730) × (j + n ≤ 2730) × (length (now table) ≡ 30030) ⌝ }
     ensures { λ r. ⌜ r ≡ tallyIn (now (table .entry)) i m j n ⌝ }
 {
-    let mut sum = listing::Tally { meeting: 0 };
+    let mut sum = listing::Tally {
+        overlapping: 0,
+        touching: 0,
+    };
     let mut a: usize = 0;
     while a < m {
         sum = row(table, sum, i + a, j, n);
         a = a + 1;
     }
     sum
+}
+
+// Whether two recordings of which this is counted leak.
+pub(crate) fn leak(t: listing::Tally) -> bool
+    ensures { λ r. ⌜ r ≡ leakBy t ⌝ }
+{
+    0 < t.overlapping
+}
+
+// Whether they only touch.
+fn only_touch(t: listing::Tally) -> bool
+    ensures { λ r. ⌜ r ≡ onlyTouchBy t ⌝ }
+{
+    (t.overlapping == 0) & (0 < t.touching)
+}
+
+// One more pair of recordings that only touch, if they do.
+pub(crate) fn touching_in(t: listing::Tally) -> u32
+    ensures { λ r. ⌜ (r ≡ once (onlyTouchBy t)) × (r ≤ 1) ⌝ }
+{
+    one_if(only_touch(t))
 }

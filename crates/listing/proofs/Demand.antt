@@ -1,22 +1,28 @@
--- Demand 2 of the list: a line for exactly the recordings that leak, in table order, each once, with how many of their triangle pairs meet. Assumes nothing.
-use Prim.Native.Nat.{ℕ, _<_}
+-- Demand 2 of the list: a line for exactly the recordings that leak, in table order, each once, with how many of their triangle pairs overlap; and the last line counts exactly those that only touch, each once. Assumes nothing.
+use Prim.Native.Nat.{ℕ, zero, suc, _<_}
 use mathlib.Core.Path.{_≡_, refl, sym, ap, subst, _∙_}
-use mathlib.Core.Logic.{inl, inr}
-use mathlib.Core.Bool.{Bool, true, false}
+use mathlib.Core.Logic.{_⊎_, inl, inr}
+use mathlib.Core.Bool.{Bool, true, false, _&&_, false≢true}
 use mathlib.Core.List.{List, map, List·Memᴰ}
 use native.Mathlib.Omega.{arith}
-use lib.Dec.{ltb}
-use borrow.Author.Tests.{ltb-true, ltb-false, lt-ltb, eqb-true, eq-eqb}
+use lib.Dec.{eqb, ltb}
+use borrow.Author.Tests.{ltb-true, ltb-false, lt-ltb, eqb-true, eqb-false, eq-eqb}
 use lib.ListN.{length, getD, length-map}
-use Rattle.floats.specs.Lists.{count}
-use Rattle.triangles.specs.Decision.{meets}
+use Rattle.floats.specs.Lists.{count, filter}
+use Rattle.triangles.specs.declared.Decision.{Decision}
+use Rattle.triangles.specs.Decision.{overlaps, touches}
 use Rattle.layout.specs.Parts.{countOf, entryAt}
 use Rattle.listing.specs.Turns.{upTo}
-use Rattle.listing.specs.Pairs.{isTest, isTraining, decisions}
-use Rattle.listing.specs.Leaks.{tests, trainings, recordingPairs, pairsMeeting, isLeak, leakPairs, leakOf, leaks}
-use Rattle.listing.specs.Demand.{Leaking, InTableOrder, AllDecided, lineFor, noLeak, DemandTwo}
+use Rattle.listing.specs.Pairs.{isTest, isTraining, decisionAt, decisions}
+use Rattle.listing.specs.Leaks.{tests, trainings, recordingPairs, tallyFor, isLeak, leakPairs, leakOf, leaks, isTouching, touchingPairs, touching}
+use Rattle.listing.specs.Demand.{Compared, SomePair, Overlap, Touch, Leaking, OnlyTouching, InTableOrder, AllDecided, lineFor, touchingFor, noLeak, DemandTwo}
 use Rattle.listing.proofs.Turns.{below, reached, kept, passed, mapped, unmapped, in-each, of-each, Sorted, sorted-filter, sorted-map, sorted-each, sorted-upTo, sorted-at, map-at}
-use Rattle.listing.proofs.Tallied.{tally-counts, counted-one, one-counted, decision-in, decision-of, how-many, in-turn}
+use Rattle.listing.proofs.Tallied.{tally-overlapping, tally-touching, counted-one, one-counted, decision-in, decision-of, how-many, in-turn}
+
+-- what is not none is some
+positive : (n : ℕ) → (n ≡ 0 → ⊥) → 0 < n
+positive zero h = absurd (h refl)
+positive (suc n) h = omega arith
 
 module _ (file : List ℕ) where
   -- ---- the pairs of recordings
@@ -48,24 +54,25 @@ module _ (file : List ℕ) where
           let s = unmapped (λ j. (y, j)) (trainings file) n in
           inl (subst (λ k. k < q .0) (sym (ap (λ t. t .0) (r .2))) (subst (λ k. x < k) (sym (ap (λ t. t .0) (s .2))) h))
 
-  sorted-leaks : Sorted InTableOrder (leakPairs file)
-  unfolding leakPairs
-  sorted-leaks = sorted-filter InTableOrder (isLeak file) (recordingPairs file) sorted-pairs
+  -- those of them that pass a test are in order too, so none is there twice
+  module _ (p : ℕ × ℕ → Bool) where
+    abbrev those : List (ℕ × ℕ)
+    those = filter p (recordingPairs file)
 
-  in-order : (k l : ℕ) → k < l → l < length (leakPairs file) → InTableOrder (lineFor file k) (lineFor file l)
-  in-order k l h n = sorted-at InTableOrder (leakPairs file) (0, 0) sorted-leaks k l h n
+    in-order : (k l : ℕ) → k < l → l < length those → InTableOrder (getD those k (0, 0)) (getD those l (0, 0))
+    in-order k l h n = sorted-at InTableOrder those (0, 0) (sorted-filter InTableOrder p (recordingPairs file) sorted-pairs) k l h n
 
-  not-before : (p q : ℕ × ℕ) → InTableOrder p q → p ≡ q → ⊥
-  not-before p q (inl h) e = let z = ap (λ t. t .0) e in omega (arith, h, z)
-  not-before p q (inr h) e = let z = ap (λ t. t .1) e in let g = h .1 in omega (arith, g, z)
+    not-before : (x y : ℕ × ℕ) → InTableOrder x y → x ≡ y → ⊥
+    not-before x y (inl h) e = let z = ap (λ t. t .0) e in omega (arith, h, z)
+    not-before x y (inr h) e = let z = ap (λ t. t .1) e in let g = h .1 in omega (arith, g, z)
 
-  once : (k l : ℕ) → k < length (leakPairs file) → l < length (leakPairs file) → lineFor file k ≡ lineFor file l → k ≡ l
-  once k l m n e = go (ltb k l) refl (ltb l k) refl
-    where
-      go : (b : Bool) → ltb k l ≡ b → (c : Bool) → ltb l k ≡ c → k ≡ l
-      go true h c g = absurd (not-before (lineFor file k) (lineFor file l) (in-order k l (ltb-true k l h) n) e)
-      go false h true g = absurd (not-before (lineFor file l) (lineFor file k) (in-order l k (ltb-true l k g) m) (sym e))
-      go false h false g = omega (arith, ltb-false k l h, ltb-false l k g)
+    once : (k l : ℕ) → k < length those → l < length those → getD those k (0, 0) ≡ getD those l (0, 0) → k ≡ l
+    once k l m n e = go (ltb k l) refl (ltb l k) refl
+      where
+        go : (b : Bool) → ltb k l ≡ b → (c : Bool) → ltb l k ≡ c → k ≡ l
+        go true h c g = absurd (not-before (getD those k (0, 0)) (getD those l (0, 0)) (in-order k l (ltb-true k l h) n) e)
+        go false h true g = absurd (not-before (getD those l (0, 0)) (getD those k (0, 0)) (in-order l k (ltb-true l k g) m) (sym e))
+        go false h false g = omega (arith, ltb-false k l h, ltb-false l k g)
 
   -- ---- which pairs there are
   in-tests : {i : ℕ} → List·Memᴰ i (tests file) → (i < countOf file) × (entryAt file i .set ≡ 1)
@@ -84,41 +91,82 @@ module _ (file : List ℕ) where
   unfolding trainings
   a-training j h e = kept trainingAt (upTo (countOf file)) (reached (countOf file) j h) (eq-eqb (entryAt file j .set) 0 e)
 
-  pub in-pairs : {p : ℕ × ℕ} → List·Memᴰ p (recordingPairs file) → List·Memᴰ (p .0) (tests file) × List·Memᴰ (p .1) (trainings file)
+  pub in-pairs : {p : ℕ × ℕ} → List·Memᴰ p (recordingPairs file) → Compared file (p .0) (p .1)
   unfolding recordingPairs
   in-pairs m =
       let r = of-each with (tests file) m in
       let s = unmapped (λ j. (r .0, j)) (trainings file) (r .2) in
-      (subst (λ q. List·Memᴰ (q .0) (tests file)) (sym (s .2)) (r .1), subst (λ q. List·Memᴰ (q .1) (trainings file)) (sym (s .2)) (s .1))
+      let t = in-tests (subst (λ q. List·Memᴰ (q .0) (tests file)) (sym (s .2)) (r .1)) in
+      let u = in-trainings (subst (λ q. List·Memᴰ (q .1) (trainings file)) (sym (s .2)) (s .1)) in
+      record { recording = t .0; test = t .1; other = u .0; training = u .1 }
 
-  a-pair : (i j : ℕ) → List·Memᴰ i (tests file) → List·Memᴰ j (trainings file) → List·Memᴰ (i, j) (recordingPairs file)
+  a-pair : (i j : ℕ) → Compared file i j → List·Memᴰ (i, j) (recordingPairs file)
   unfolding recordingPairs
-  a-pair i j m n = in-each with (tests file) m (mapped (λ j. (i, j)) (trainings file) n)
+  a-pair i j c = in-each with (tests file) (a-test i (c .recording) (c .test)) (mapped (λ j. (i, j)) (trainings file) (a-training j (c .other) (c .training)))
 
-  -- ---- N
-  pub counted : (i j : ℕ) → pairsMeeting file (i, j) ≡ count meets (decisions file (entryAt file i) (entryAt file j))
-  unfolding pairsMeeting
-  counted i j = tally-counts file (entryAt file i) (entryAt file j)
+  -- ---- what is counted of two recordings
+  pub counted : (i j : ℕ) → tallyFor file (i, j) .overlapping ≡ count overlaps (decisions file (entryAt file i) (entryAt file j))
+  unfolding tallyFor
+  counted i j = tally-overlapping file (entryAt file i) (entryAt file j)
+
+  pub counted-touching : (i j : ℕ) → tallyFor file (i, j) .touching ≡ count touches (decisions file (entryAt file i) (entryAt file j))
+  unfolding tallyFor
+  counted-touching i j = tally-touching file (entryAt file i) (entryAt file j)
+
+  -- some are counted exactly if there is such a pair
+  module _ (p : Decision → Bool) (i j : ℕ) {n : ℕ} (e : n ≡ count p (decisions file (entryAt file i) (entryAt file j))) where
+    abbrev Such : Type 0
+    Such = SomePair file i j (λ a b. p (decisionAt file (entryAt file i) (entryAt file j) a b) ≡ true)
+
+    there-is : 0 < n → Such
+    there-is h =
+        let c = one-counted p (decisions file (entryAt file i) (entryAt file j)) (subst (λ n. 0 < n) e h) in
+        let d = decision-of file (entryAt file i) (entryAt file j) (c .1) in
+        (d .0, d .1, d .2, d .3, ap p (sym (d .4)) ∙ c .2)
+
+    some-counted : Such → 0 < n
+    some-counted q =
+        let d = decision-in file (entryAt file i) (entryAt file j) (q .0) (q .1) (q .2) (q .3) in
+        subst (λ n. 0 < n) (sym e) (counted-one p (decisions file (entryAt file i) (entryAt file j)) d (q .4))
 
   -- ---- a line exactly if they leak
   leaking : (i j : ℕ) → List·Memᴰ (i, j) (leakPairs file) → Leaking file i j
   unfolding leakPairs
   leaking i j m =
       let r = passed (isLeak file) (recordingPairs file) m in
-      let s = in-pairs (r .0) in
-      let t = in-tests (s .0) in
-      let u = in-trainings (s .1) in
-      let c = one-counted meets (decisions file (entryAt file i) (entryAt file j)) (subst (λ n. 0 < n) (counted i j) (ltb-true 0 (pairsMeeting file (i, j)) (r .1))) in
-      let d = decision-of file (entryAt file i) (entryAt file j) (c .1) in
-      record { recording = t .0; test = t .1; other = u .0; training = u .1; pair = (d .0, d .1, d .2, d .3, ap meets (sym (d .4)) ∙ c .2) }
+      record { compared = in-pairs (r .0); pair = there-is overlaps i j (counted i j) (ltb-true 0 (tallyFor file (i, j) .overlapping) (r .1)) }
 
   stands : (i j : ℕ) → Leaking file i j → List·Memᴰ (i, j) (leakPairs file)
   unfolding leakPairs
-  stands i j h =
-      let q = h .pair in
-      let d = decision-in file (entryAt file i) (entryAt file j) (q .0) (q .1) (q .2) (q .3) in
-      let n = counted-one meets (decisions file (entryAt file i) (entryAt file j)) d (q .4) in
-      kept (isLeak file) (recordingPairs file) (a-pair i j (a-test i (h .recording) (h .test)) (a-training j (h .other) (h .training))) (lt-ltb 0 (pairsMeeting file (i, j)) (subst (λ n. 0 < n) (sym (counted i j)) n))
+  stands i j h = kept (isLeak file) (recordingPairs file) (a-pair i j (h .compared)) (lt-ltb 0 (tallyFor file (i, j) .overlapping) (some-counted overlaps i j (counted i j) (h .pair)))
+
+  -- ---- counted as touching exactly if they only touch
+  both : (a b : Bool) → (a && b) ≡ true → (a ≡ true) × (b ≡ true)
+  both true b h = (refl, h)
+  both false b h = (h, absurd (false≢true h))
+
+  only-touching : (i j : ℕ) → List·Memᴰ (i, j) (touchingPairs file) → OnlyTouching file i j
+  unfolding touchingPairs
+  only-touching i j m =
+      let r = passed (isTouching file) (recordingPairs file) m in
+      let s = both (eqb (tallyFor file (i, j) .overlapping) 0) (ltb 0 (tallyFor file (i, j) .touching)) (r .1) in
+      let none = eqb-true (tallyFor file (i, j) .overlapping) 0 (s .0) in
+      record {
+        compared = in-pairs (r .0);
+        pair = there-is touches i j (counted-touching i j) (ltb-true 0 (tallyFor file (i, j) .touching) (s .1));
+        noOther = λ q. let h = some-counted overlaps i j (counted i j) q in omega (arith, h, none);
+      }
+
+  is-counted : (i j : ℕ) → OnlyTouching file i j → List·Memᴰ (i, j) (touchingPairs file)
+  unfolding touchingPairs
+  is-counted i j h =
+      let none = no-overlap (eqb (tallyFor file (i, j) .overlapping) 0) refl in
+      kept (isTouching file) (recordingPairs file) (a-pair i j (h .compared))
+      (rw (eq-eqb (tallyFor file (i, j) .overlapping) 0 none) (lt-ltb 0 (tallyFor file (i, j) .touching) (some-counted touches i j (counted-touching i j) (h .pair))))
+    where
+      no-overlap : (b : Bool) → eqb (tallyFor file (i, j) .overlapping) 0 ≡ b → tallyFor file (i, j) .overlapping ≡ 0
+      no-overlap true e = eqb-true (tallyFor file (i, j) .overlapping) 0 e
+      no-overlap false e = absurd (h .noOther (there-is overlaps i j (counted i j) (positive (tallyFor file (i, j) .overlapping) (eqb-false (tallyFor file (i, j) .overlapping) 0 e))))
 
   -- ---- the lines
   pub as-many : length (leaks file) ≡ length (leakPairs file)
@@ -129,16 +177,20 @@ module _ (file : List ℕ) where
   unfolding leaks
   line k h = map-at (leakOf file) (leakPairs file) k noLeak (0, 0) h
 
-  named : (i j : ℕ) → (leakOf file (i, j) .test ≡ entryAt file i .id) × (leakOf file (i, j) .train ≡ entryAt file j .id) × (leakOf file (i, j) .pairs ≡ pairsMeeting file (i, j))
+  named : (i j : ℕ) → (leakOf file (i, j) .test ≡ entryAt file i .id) × (leakOf file (i, j) .train ≡ entryAt file j .id) × (leakOf file (i, j) .pairs ≡ tallyFor file (i, j) .overlapping)
   unfolding leakOf
   named i j = (refl, refl, refl)
 
-  no-held-back : (i j k : ℕ) → List·Memᴰ (i, j) (leakPairs file) → entryAt file k .set ≡ 2 → (i ≡ k → ⊥) × (j ≡ k → ⊥)
+  no-held-back : (i j k : ℕ) → List·Memᴰ (i, j) (leakPairs file) ⊎ List·Memᴰ (i, j) (touchingPairs file) → entryAt file k .set ≡ 2 → (i ≡ k → ⊥) × (j ≡ k → ⊥)
   no-held-back i j k m e =
-      let h = leaking i j m in
+      let h = either m in
       let t = h .test in
       let r = h .training in
       (λ q. let z = ap (λ n. entryAt file n .set) q in omega (arith, e, t, z), λ q. let z = ap (λ n. entryAt file n .set) q in omega (arith, e, r, z))
+    where
+      either : List·Memᴰ (i, j) (leakPairs file) ⊎ List·Memᴰ (i, j) (touchingPairs file) → Compared file i j
+      either (inl m) = leaking i j m .compared
+      either (inr m) = only-touching i j m .compared
 
   all-decided : (i j : ℕ) → AllDecided file i j
   all-decided i j = record { howMany = how-many file (entryAt file i) (entryAt file j); inTurn = in-turn file (entryAt file i) (entryAt file j) }
@@ -146,12 +198,16 @@ module _ (file : List ℕ) where
 pub demand2 : DemandTwo
 demand2 file = record {
   exactlyIf = λ i j. (leaking file i j, stands file i j);
-  inOrder = in-order file;
-  once = once file;
+  inOrder = unfold leakPairs in in-order file (isLeak file);
+  once = unfold leakPairs in once file (isLeak file);
   asMany = as-many file;
   line = line file;
   named = named file;
   counted = counted file;
   decided = all-decided file;
+  touchingExactlyIf = λ i j. (only-touching file i j, is-counted file i j);
+  touchingInOrder = unfold touchingPairs in in-order file (isTouching file);
+  touchingOnce = unfold touchingPairs in once file (isTouching file);
+  touchingCounted = unfold touching in refl;
   noHeldBack = no-held-back file;
 }

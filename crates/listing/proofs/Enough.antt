@@ -1,4 +1,4 @@
--- The list of a good file has at most 1,024 leak lines of at most 50 bytes, so 65,536 bytes are always enough. Assumes nothing.
+-- The list of a good file has at most 1,024 leak lines of at most 50 bytes, a first line and a last, so 65,536 bytes are always enough. Assumes nothing.
 use Prim.Native.Nat.{ℕ, zero, suc, _+_, _-_, _*_, _/_, _^_, _<_, _≤_}
 use mathlib.Core.Path.{_≡_, refl, sym, ap, subst}
 use mathlib.Core.Bool.{Bool, true, false, cond, false≢true}
@@ -12,19 +12,20 @@ use Rattle.floats.specs.Lists.{all, filter, count}
 use Rattle.floats.proofs.Lists.{all-at}
 use Rattle.text.specs.Decimal.{decimal}
 use Rattle.text.proofs.Laws.{width-small, width-large}
-use Rattle.triangles.specs.Decision.{meets}
+use Rattle.triangles.specs.Decision.{overlaps}
 use Rattle.layout.specs.Bytes.{u16At, u32At}
 use Rattle.layout.specs.Parts.{countOf, entryFrom, entryPlace, entryAt}
 use Rattle.layout.specs.Layout.{Layout}
 use Rattle.listing.specs.Turns.{upTo, each}
 use Rattle.listing.specs.Pairs.{isTest, isTraining, decisions}
-use Rattle.listing.specs.Leaks.{Leak, tests, trainings, recordingPairs, pairsMeeting, isLeak, leakPairs, leakOf, leaks}
-use Rattle.listing.specs.Words.{firstLine, leakLine, leakLines, listText}
+use Rattle.listing.specs.Leaks.{Leak, tests, trainings, recordingPairs, tallyFor, isLeak, leakPairs, leakOf, leaks, isTouching, touchingPairs, touching}
+use Rattle.listing.specs.Words.{leaksWord, touchingWord, firstLine, leakLine, leakLines, closingLine, textOf, listText}
 use Rattle.layout.specs.Bytes.{Bytes}
 use Rattle.listing.specs.Enough.{AlwaysEnough}
 use Rattle.listing.proofs.Turns.{reached, unmapped}
 use Rattle.listing.proofs.Tallied.{how-many, length-upTo}
 use Rattle.listing.proofs.Demand.{counted, as-many}
+use Rattle.listing.proofs.Read.{count-length}
 
 -- ---- how long lists are
 -- where nothing passes both tests, those that pass one and those that pass the other are together no more than all
@@ -106,18 +107,22 @@ module _ (file : List ℕ) where
   unfolding recordingPairs
   pairs-most = each-most (λ i. map (λ j. (i, j)) (trainings file)) (length (trainings file)) (tests file) (λ i m. let e = length-map {B = ℕ × ℕ} (trainings file) (λ j. (i, j)) in omega (arith, e))
 
-  -- no more lines than pairs of recordings
-  lines-fewer : length (leakPairs file) ≤ length (recordingPairs file)
-  unfolding leakPairs
-  lines-fewer = filter-most (isLeak file) (recordingPairs file)
-
-  -- at most 1,024 lines
-  pub leaks-most : Layout file → length (leaks file) ≤ 1024
-  leaks-most good =
+  -- 1,024 pairs of recordings at most
+  compared-most : Layout file → length (recordingPairs file) ≤ 1024
+  compared-most good =
       let c = good .atMost64 in
       let s = sets-most in
       let p = product-most (length (tests file)) (length (trainings file)) (omega (arith, c, s)) in
-      omega (arith, p, pairs-most, lines-fewer, as-many file)
+      omega (arith, p, pairs-most)
+
+  -- no more lines than that, and no more that only touch
+  pub leaks-most : Layout file → length (leaks file) ≤ 1024
+  unfolding leakPairs
+  leaks-most good = let f = filter-most (isLeak file) (recordingPairs file) in omega (arith, f, compared-most good, as-many file)
+
+  pub touching-most : Layout file → touching file ≤ 1024
+  unfolding touching touchingPairs
+  touching-most good = let f = filter-most (isTouching file) (recordingPairs file) in omega (arith, f, compared-most good)
 
 -- ---- how long a line is: twenty bytes and three numbers
 three-numbers : (t r n : ℕ) → t < 4294967296 → r < 4294967296 → n < 4294967296 → length (leakLine (record { test = t; train = r; pairs = n })) ≤ 50
@@ -144,13 +149,13 @@ module _ (file : List ℕ) (bytes : Bytes file) where
   unfolding entryAt entryFrom
   count-below i = two-bytes (entryPlace file i + 8)
 
-  -- no more triangle pairs meet than there are
-  meeting-below : (p : ℕ × ℕ) → pairsMeeting file p < 4294967296
-  meeting-below p =
+  -- no more triangle pairs overlap than there are
+  pairs-below : (p : ℕ × ℕ) → tallyFor file p .overlapping < 4294967296
+  pairs-below p =
       let e = entryAt file (p .0) in
       let f = entryAt file (p .1) in
       let a = counted file (p .0) (p .1) in
-      let b = count-most meets (decisions file e f) in
+      let b = count-most overlaps (decisions file e f) in
       let c = how-many file e f in
       let d : e .count * f .count ≤ 4294836225 = mul-le-mul (count-below (p .0)) (count-below (p .1)) in
       omega (arith, a, b, c, d)
@@ -165,17 +170,20 @@ module _ (file : List ℕ) (bytes : Bytes file) where
       three-numbers (l .test) (l .train) (l .pairs)
       (subst (λ n. n < 4294967296) (sym (ap (λ k. k .test) e)) (id-below (p .0)))
       (subst (λ n. n < 4294967296) (sym (ap (λ k. k .train) e)) (id-below (p .1)))
-      (subst (λ n. n < 4294967296) (sym (ap (λ k. k .pairs) e)) (meeting-below p))
+      (subst (λ n. n < 4294967296) (sym (ap (λ k. k .pairs) e)) (pairs-below p))
 
--- ---- the whole list: at most 17 + 1,024 × 50 bytes
+-- ---- the whole list: at most 17 + 1,024 × 50 + 20 bytes
 pub always-enough : AlwaysEnough
-unfolding listText leakLines
+unfolding listText textOf leakLines
 always-enough file bytes good =
     let k = length (leaks file) in
+    let t = touching file in
     let most = leaks-most file good in
     let lines = each-most leakLine 50 (leaks file) (line-most file bytes) in
-    let first : length (firstLine k) ≡ 7 + length (decimal k) = unfold firstLine in simp length-append (omega arith) in
+    let first = count-length leaksWord k in
+    let last = count-length touchingWord t in
     let digits = ten-digits k (omega (arith, most)) in
+    let more = ten-digits t (let m = touching-most file good in omega (arith, m)) in
     let front = length-append (firstLine k) (leakLines (leaks file)) in
-    let whole = length-append (firstLine k ++ leakLines (leaks file)) [] in
-    omega (arith, most, lines, first, digits, front, whole)
+    let whole = length-append (firstLine k ++ leakLines (leaks file)) (closingLine t) in
+    omega (arith, most, lines, first, last, digits, more, front, whole)

@@ -1,7 +1,7 @@
 -- Of a good file ids stand for recordings: what holds of the recordings of a line holds of the ids in it. Assumes nothing.
 use Prim.Native.Nat.{ℕ, _<_}
 use mathlib.Core.Path.{_≡_, refl, sym, ap, ap₂, subst, _∙_}
-use mathlib.Core.Logic.{_↔_}
+use mathlib.Core.Logic.{inl, _↔_}
 use mathlib.Core.Bool.{Bool, true, false}
 use mathlib.Core.List.{List, List·Memᴰ}
 use native.Mathlib.Omega.{arith}
@@ -10,7 +10,7 @@ use borrow.Author.Tests.{ltb-true, ltb-false}
 use lib.ListN.{length, getD}
 use Rattle.layout.specs.Parts.{countOf, entryAt}
 use Rattle.layout.specs.Layout.{Layout}
-use Rattle.listing.specs.Leaks.{Leak, recordingPairs, pairsMeeting, isLeak, leakPairs, leakOf, leaks}
+use Rattle.listing.specs.Leaks.{Leak, recordingPairs, tallyFor, isLeak, leakPairs, leakOf, leaks}
 use Rattle.listing.specs.Demand.{Leaking, lineFor, noLeak, LinesById}
 use Rattle.listing.proofs.Turns.{passed, unmapped, member-at, mapped}
 use Rattle.listing.proofs.Demand.{demand2}
@@ -40,7 +40,7 @@ module _ (file : List ℕ) (good : Layout file) where
   unfolding leakOf
   train-of p = refl
 
-  pairs-of : (p : ℕ × ℕ) → leakOf file p .pairs ≡ pairsMeeting file p
+  pairs-of : (p : ℕ × ℕ) → leakOf file p .pairs ≡ tallyFor file p .overlapping
   unfolding leakOf
   pairs-of p = refl
 
@@ -49,9 +49,9 @@ module _ (file : List ℕ) (good : Layout file) where
       let r = of-line m in
       let p = r .0 in
       let q = leaks-at p (r .1) in
-      let n = demand2 file .noHeldBack (p .0) (p .1) k (r .1) e in (
-        λ z. n .0 (same-id (p .0) k (q .recording) h (sym (test-of p) ∙ (ap (λ l. l .test) (sym (r .2)) ∙ z))),
-        λ z. n .1 (same-id (p .1) k (q .other) h (sym (train-of p) ∙ (ap (λ l. l .train) (sym (r .2)) ∙ z))),
+      let n = demand2 file .noHeldBack (p .0) (p .1) k (inl (r .1)) e in (
+        λ z. n .0 (same-id (p .0) k (q .compared .recording) h (sym (test-of p) ∙ (ap (λ l. l .test) (sym (r .2)) ∙ z))),
+        λ z. n .1 (same-id (p .1) k (q .compared .other) h (sym (train-of p) ∙ (ap (λ l. l .train) (sym (r .2)) ∙ z))),
       )
 
   once : (k l : ℕ) → k < length (leaks file) → l < length (leaks file) → getD (leaks file) k noLeak .test ≡ getD (leaks file) l noLeak .test → getD (leaks file) k noLeak .train ≡ getD (leaks file) l noLeak .train → k ≡ l
@@ -63,13 +63,13 @@ module _ (file : List ℕ) (good : Layout file) where
       let q = lineFor file l in
       let u = leaks-at p (member-at (leakPairs file) (0, 0) k m) in
       let v = leaks-at q (member-at (leakPairs file) (0, 0) l n) in
-      let first = same-id (p .0) (q .0) (u .recording) (v .recording) (sym (test-of p) ∙ (ap (λ l. l .test) (sym (d .line k m)) ∙ (e ∙ (ap (λ l. l .test) (d .line l n) ∙ test-of q)))) in
-      let second = same-id (p .1) (q .1) (u .other) (v .other) (sym (train-of p) ∙ (ap (λ l. l .train) (sym (d .line k m)) ∙ (f ∙ (ap (λ l. l .train) (d .line l n) ∙ train-of q)))) in
+      let first = same-id (p .0) (q .0) (u .compared .recording) (v .compared .recording) (sym (test-of p) ∙ (ap (λ l. l .test) (sym (d .line k m)) ∙ (e ∙ (ap (λ l. l .test) (d .line l n) ∙ test-of q)))) in
+      let second = same-id (p .1) (q .1) (u .compared .other) (v .compared .other) (sym (train-of p) ∙ (ap (λ l. l .train) (sym (d .line k m)) ∙ (f ∙ (ap (λ l. l .train) (d .line l n) ∙ train-of q)))) in
       d .once k l m n (ap₂ (λ i j. (i, j)) first second)
 
-  some-pair : {p : ℕ × ℕ} → List·Memᴰ p (leakPairs file) → 0 < pairsMeeting file p
+  some-pair : {p : ℕ × ℕ} → List·Memᴰ p (leakPairs file) → 0 < tallyFor file p .overlapping
   unfolding leakPairs
-  some-pair {p} m = ltb-true 0 (pairsMeeting file p) (passed (isLeak file) (recordingPairs file) m .1)
+  some-pair {p} m = ltb-true 0 (tallyFor file p .overlapping) (passed (isLeak file) (recordingPairs file) m .1)
 
   some : (l : Leak) → List·Memᴰ l (leaks file) → 0 < l .pairs
   some l m = let r = of-line m in subst (λ n. 0 < n) (sym (ap (λ l. l .pairs) (r .2) ∙ pairs-of (r .0))) (some-pair (r .1))

@@ -6,14 +6,14 @@ use mathlib.Core.List.{List, [], _∷_, _++_, append-assoc, append-nil, List·Me
 use native.Mathlib.Omega.{arith}
 use lib.Dec.{eqb}
 use borrow.Author.Tests.{ne-eqb, le-leb}
-use lib.ListN.{length}
+use lib.ListN.{length, length-append}
 use Rattle.floats.specs.Lists.{count}
 use Rattle.floats.proofs.Lists.{count-append}
 use Rattle.text.specs.Decimal.{decimal, readOn}
 use Rattle.text.proofs.Decimal.{decimals}
 use Rattle.listing.specs.Turns.{each}
-use Rattle.listing.specs.Leaks.{Leak, leaks}
-use Rattle.listing.specs.Words.{leaksWord, testWord, trainWord, pairsWord, refusedWord, atWord, feed, firstLine, leakLine, leakLines, listText, refusedLine}
+use Rattle.listing.specs.Leaks.{Leak, leaks, touching}
+use Rattle.listing.specs.Words.{leaksWord, testWord, trainWord, pairsWord, touchingWord, refusedWord, atWord, feed, countLine, firstLine, leakLine, leakLines, closingLine, textOf, listText, refusedLine}
 use Rattle.listing.specs.Read.{isDigit, numbersBy, numbersIn, feeds, threeOf, ListsReadBack, RefusalsReadBack}
 
 abbrev AllDigits : List ℕ → Type 0
@@ -68,35 +68,62 @@ leak-feeds : (l : Leak) (ys : List ℕ) → feeds (leakLine l ++ ys) ≡ suc (fe
 unfolding count
 leak-feeds l ys = ap feeds (line-apart l ys) ∙ (feeds-number (l .test) _ ∙ (feeds-number (l .train) _ ∙ feeds-number (l .pairs) (feed ++ ys)))
 
-lines-numbers : (ls : List Leak) → numbersIn (leakLines ls) ≡ each threeOf ls
-unfolding leakLines each numbersBy
-lines-numbers [] = refl
-lines-numbers (l ∷ ls) = leak-numbers l (leakLines ls) ∙ ap (λ k. l .test ∷ l .train ∷ l .pairs ∷ k) (lines-numbers ls)
+lines-numbers : (ls : List Leak) (ys : List ℕ) → numbersIn (leakLines ls ++ ys) ≡ each threeOf ls ++ numbersIn ys
+unfolding leakLines each
+lines-numbers [] ys = refl
+lines-numbers (l ∷ ls) ys = ap numbersIn (append-assoc (leakLine l) (leakLines ls) ys) ∙ (leak-numbers l (leakLines ls ++ ys) ∙ ap (λ k. l .test ∷ l .train ∷ l .pairs ∷ k) (lines-numbers ls ys))
 
-lines-feeds : (ls : List Leak) → feeds (leakLines ls) ≡ length ls
-unfolding leakLines each count
-lines-feeds [] = refl
-lines-feeds (l ∷ ls) = leak-feeds l (leakLines ls) ∙ ap suc (lines-feeds ls)
+lines-feeds : (ls : List Leak) (ys : List ℕ) → feeds (leakLines ls ++ ys) ≡ length ls + feeds ys
+unfolding leakLines each
+lines-feeds [] ys = sym (none-before (feeds ys))
+lines-feeds (l ∷ ls) ys = ap feeds (append-assoc (leakLine l) (leakLines ls) ys) ∙ (leak-feeds l (leakLines ls ++ ys) ∙ (ap suc (lines-feeds ls ys) ∙ one-more (length ls) (feeds ys)))
+  where
+    one-more : (m n : ℕ) → suc (m + n) ≡ suc m + n
+    one-more m n = omega arith
+
+-- ---- a line of a word and a number
+count-apart : (word : List ℕ) (k : ℕ) (ys : List ℕ) → countLine word k ++ ys ≡ word ++ (decimal k ++ (feed ++ ys))
+unfolding countLine
+count-apart word k ys = append-assoc (word ++ decimal k) feed ys ∙ append-assoc word (decimal k) (feed ++ ys)
+
+count-last : (word : List ℕ) (k : ℕ) → countLine word k ≡ word ++ (decimal k ++ feed)
+unfolding countLine
+count-last word k = append-assoc word (decimal k) feed
+
+pub count-length : (word : List ℕ) (k : ℕ) → length (countLine word k) ≡ length word + length (decimal k) + 1
+unfolding countLine
+count-length word k = simp length-append (omega arith)
+
+closing-numbers : (k : ℕ) → numbersIn (closingLine k) ≡ k ∷ []
+unfolding numbersBy
+closing-numbers k = ap numbersIn (count-last touchingWord k) ∙ number k feed
+
+closing-feeds : (k : ℕ) → feeds (closingLine k) ≡ 1
+unfolding count
+closing-feeds k = ap feeds (count-last touchingWord k) ∙ feeds-number k feed
 
 -- ---- the list
-list-apart : (k : ℕ) (ls : List Leak) → firstLine k ++ leakLines ls ++ [] ≡ leaksWord ++ (decimal k ++ (feed ++ leakLines ls))
-unfolding firstLine
-list-apart k ls = append-nil (firstLine k ++ leakLines ls) ∙ (append-assoc (leaksWord ++ decimal k) feed (leakLines ls) ∙ append-assoc leaksWord (decimal k) (feed ++ leakLines ls))
+list-apart : (k : ℕ) (ls : List Leak) (ys : List ℕ) → firstLine k ++ leakLines ls ++ ys ≡ leaksWord ++ (decimal k ++ (feed ++ (leakLines ls ++ ys)))
+list-apart k ls ys = append-assoc (firstLine k) (leakLines ls) ys ∙ count-apart leaksWord k (leakLines ls ++ ys)
 
-list-numbers : (k : ℕ) (ls : List Leak) → numbersIn (firstLine k ++ leakLines ls ++ []) ≡ k ∷ each threeOf ls
-unfolding numbersBy
-list-numbers k ls = ap numbersIn (list-apart k ls) ∙ (number k (feed ++ leakLines ls) ∙ ap (λ r. k ∷ r) (lines-numbers ls))
+list-numbers : (ls : List Leak) (t : ℕ) → numbersIn (textOf ls t) ≡ length ls ∷ (each threeOf ls ++ (t ∷ []))
+unfolding textOf numbersBy
+list-numbers ls t =
+    ap numbersIn (list-apart (length ls) ls (closingLine t))
+    ∙ (number (length ls) (feed ++ (leakLines ls ++ closingLine t)) ∙ ap (λ r. length ls ∷ r) (lines-numbers ls (closingLine t) ∙ ap (λ r. each threeOf ls ++ r) (closing-numbers t)))
 
-list-feeds : (k : ℕ) (ls : List Leak) → feeds (firstLine k ++ leakLines ls ++ []) ≡ length ls + 1
-unfolding count
-list-feeds k ls = ap feeds (list-apart k ls) ∙ (feeds-number k (feed ++ leakLines ls) ∙ (ap suc (lines-feeds ls) ∙ one-more (length ls)))
+list-feeds : (ls : List Leak) (t : ℕ) → feeds (textOf ls t) ≡ length ls + 2
+unfolding textOf count
+list-feeds ls t =
+    ap feeds (list-apart (length ls) ls (closingLine t))
+    ∙ (feeds-number (length ls) (feed ++ (leakLines ls ++ closingLine t)) ∙ (ap suc (lines-feeds ls (closingLine t) ∙ ap (λ n. length ls + n) (closing-feeds t)) ∙ one-more (length ls)))
   where
-    one-more : (m : ℕ) → suc m ≡ m + 1
+    one-more : (m : ℕ) → suc (m + 1) ≡ m + 2
     one-more m = omega arith
 
 pub lists-read-back : ListsReadBack
 unfolding listText
-lists-read-back file = record { numbers = list-numbers (length (leaks file)) (leaks file); lines = list-feeds (length (leaks file)) (leaks file) }
+lists-read-back file = record { numbers = list-numbers (leaks file) (touching file); lines = list-feeds (leaks file) (touching file) }
 
 -- ---- a refusal
 refusal-numbers : (n p : ℕ) → numbersIn (refusedWord ++ decimal n ++ atWord ++ decimal p ++ feed) ≡ n ∷ p ∷ []

@@ -1,4 +1,4 @@
--- What a tally counts is how many decisions meet, and the decisions of two recordings are those of all their triangle pairs, in order. Assumes nothing.
+-- What a tally counts is how many decisions overlap and how many touch, and the decisions of two recordings are those of all their triangle pairs, in order. Assumes nothing.
 use Prim.Native.Nat.{ℕ, zero, suc, _+_, _*_, _<_}
 use mathlib.Core.Path.{_≡_, refl, sym, ap, ap₂, subst, _∙_}
 use mathlib.Core.Bool.{Bool, true, false, cond}
@@ -13,31 +13,36 @@ use lib.Seq.{getD-append-add}
 use Rattle.floats.specs.Lists.{count, once}
 use Rattle.triangles.specs.declared.Decision.{Decision}
 use Rattle.triangles.specs.declared.Decision.the-variants.{Apart}
-use Rattle.triangles.specs.Decision.{meets}
+use Rattle.triangles.specs.Decision.{overlaps, touches}
 use Rattle.layout.specs.declared.Entry.{Entry}
 use Rattle.listing.specs.declared.Tally.{Tally}
 use Rattle.listing.specs.Turns.{upTo, each, folded}
 use Rattle.listing.specs.Pairs.{decisionAt, decisions, tallied, noneYet, tallyOf}
 use Rattle.listing.proofs.Turns.{below, reached, mapped, unmapped, in-each, of-each, each-append, map-at}
 
--- ---- the count
-counts : (t : Tally) (ds : List Decision) → folded tallied t ds .meeting ≡ t .meeting + count meets ds
-unfolding folded count
-counts t [] = omega arith
-counts t (d ∷ ds) = counts (tallied t d) ds ∙ go (meets d)
-  where
-    go : (b : Bool) → (t .meeting + once b) + count meets ds ≡ t .meeting + cond b (suc (count meets ds)) (count meets ds)
-    go true = omega arith
-    go false = omega arith
+-- ---- the counts
+module _ (p : Decision → Bool) (of : Tally → ℕ) (adds : (t : Tally) (d : Decision) → of (tallied t d) ≡ of t + once (p d)) where
+  counts : (t : Tally) (ds : List Decision) → of (folded tallied t ds) ≡ of t + count p ds
+  unfolding folded count
+  counts t [] = omega arith
+  counts t (d ∷ ds) = counts (tallied t d) ds ∙ (ap (λ n. n + count p ds) (adds t d) ∙ go (p d))
+    where
+      go : (b : Bool) → (of t + once b) + count p ds ≡ of t + cond b (suc (count p ds)) (count p ds)
+      go true = omega arith
+      go false = omega arith
 
-pub tally-counts : (file : List ℕ) (e f : Entry) → tallyOf file e f .meeting ≡ count meets (decisions file e f)
-unfolding tallyOf
-tally-counts file e f = counts noneYet (decisions file e f) ∙ from-nought (count meets (decisions file e f))
-  where
-    from-nought : (n : ℕ) → 0 + n ≡ n
-    from-nought n = omega arith
+  -- from none on
+  counted-from : of noneYet ≡ 0 → (file : List ℕ) (e f : Entry) → of (tallyOf file e f) ≡ count p (decisions file e f)
+  unfolding tallyOf
+  counted-from z file e f = let c = counts noneYet (decisions file e f) in omega (arith, c, z)
 
--- one that meets is counted, and where one is counted one meets
+pub tally-overlapping : (file : List ℕ) (e f : Entry) → tallyOf file e f .overlapping ≡ count overlaps (decisions file e f)
+tally-overlapping = counted-from overlaps (λ t. t .overlapping) (λ t d. refl) refl
+
+pub tally-touching : (file : List ℕ) (e f : Entry) → tallyOf file e f .touching ≡ count touches (decisions file e f)
+tally-touching = counted-from touches (λ t. t .touching) (λ t d. refl) refl
+
+-- one that passes the test is counted, and where one is counted one passes
 pub counted-one : {A : Type 0} (p : A → Bool) (xs : List A) {x : A} → List·Memᴰ x xs → p x ≡ true → 0 < count p xs
 unfolding count
 counted-one p [] m h = elim m [ ]

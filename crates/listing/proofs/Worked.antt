@@ -26,7 +26,8 @@ fits c w output =
     && (eqb (w .result .place) (c .place)
     && (eqb (w .result .length) (c .length)
     && (eqb (w .result .leaks) (c .leaks)
-    && (sameBytes (w .room) (c .front ++ pointsOf (c .points)) && sameBytes output (c .output)))))
+    && (eqb (w .result .touching) (c .touching)
+    && (sameBytes (w .room) (c .front ++ pointsOf (c .points)) && sameBytes output (c .output))))))
 
 right : Case → Bool
 unfolding fits whole outputOf
@@ -44,19 +45,22 @@ shown c t0 =
     let B1 = eqb (w .result .place) (c .place) in
     let B2 = eqb (w .result .length) (c .length) in
     let B3 = eqb (w .result .leaks) (c .leaks) in
-    let B4 = sameBytes (w .room) (c .front ++ pointsOf (c .points)) in
-    let B5 = sameBytes (outputOf (c .file)) (c .output) in
-    let t1 = and-r B0 (B1 && (B2 && (B3 && (B4 && B5)))) t0 in
-    let t2 = and-r B1 (B2 && (B3 && (B4 && B5))) t1 in
-    let t3 = and-r B2 (B3 && (B4 && B5)) t2 in
-    let t4 = and-r B3 (B4 && B5) t3 in
+    let B4 = eqb (w .result .touching) (c .touching) in
+    let B5 = sameBytes (w .room) (c .front ++ pointsOf (c .points)) in
+    let B6 = sameBytes (outputOf (c .file)) (c .output) in
+    let t1 = and-r B0 (B1 && (B2 && (B3 && (B4 && (B5 && B6))))) t0 in
+    let t2 = and-r B1 (B2 && (B3 && (B4 && (B5 && B6)))) t1 in
+    let t3 = and-r B2 (B3 && (B4 && (B5 && B6))) t2 in
+    let t4 = and-r B3 (B4 && (B5 && B6)) t3 in
+    let t5 = and-r B4 (B5 && B6) t4 in
     record {
-      number = eqb→eq (w .result .number) (c .number) (and-l B0 (B1 && (B2 && (B3 && (B4 && B5)))) t0);
-      place = eqb→eq (w .result .place) (c .place) (and-l B1 (B2 && (B3 && (B4 && B5))) t1);
-      length = eqb→eq (w .result .length) (c .length) (and-l B2 (B3 && (B4 && B5)) t2);
-      leaks = eqb→eq (w .result .leaks) (c .leaks) (and-l B3 (B4 && B5) t3);
-      room = same-list eqb eqb→eq (w .room) (c .front ++ pointsOf (c .points)) (and-l B4 B5 t4);
-      output = same-list eqb eqb→eq (outputOf (c .file)) (c .output) (and-r B4 B5 t4);
+      number = eqb→eq (w .result .number) (c .number) (and-l B0 (B1 && (B2 && (B3 && (B4 && (B5 && B6))))) t0);
+      place = eqb→eq (w .result .place) (c .place) (and-l B1 (B2 && (B3 && (B4 && (B5 && B6)))) t1);
+      length = eqb→eq (w .result .length) (c .length) (and-l B2 (B3 && (B4 && (B5 && B6))) t2);
+      leaks = eqb→eq (w .result .leaks) (c .leaks) (and-l B3 (B4 && (B5 && B6)) t3);
+      touching = eqb→eq (w .result .touching) (c .touching) (and-l B4 (B5 && B6) t4);
+      room = same-list eqb eqb→eq (w .room) (c .front ++ pointsOf (c .points)) (and-l B5 B6 t5);
+      output = same-list eqb eqb→eq (outputOf (c .file)) (c .output) (and-r B5 B6 t5);
     }
 
 pub worked : (c : Case) → List·Memᴰ c cases → Shown c

@@ -1,4 +1,4 @@
--- Demand 2 of the leak list: which lines there are, in which order, and what stands in them, in facts about the file's recordings and triangles. Statements only.
+-- Demand 2 of the leak list, in the words of 02, No. 1: which lines there are, in which order, what stands in them, and what the last line counts, in facts about the file's recordings and triangles. Statements only.
 use Prim.Native.Nat.{ℕ, _+_, _*_, _<_}
 use mathlib.Core.Path.{_≡_}
 use mathlib.Core.Logic.{_⊎_, _↔_}
@@ -7,25 +7,42 @@ use mathlib.Core.List.{List, List·Memᴰ}
 use lib.ListN.{length, getD}
 use Rattle.floats.specs.Lists.{count}
 use Rattle.triangles.specs.declared.Decision.the-variants.{Refused, Apart}
-use Rattle.triangles.specs.Decision.{meets, decisionOf}
+use Rattle.triangles.specs.Decision.{overlaps, touches, decisionOf}
 use Rattle.centimetres.specs.Centimetres.{twelveValues}
 use Rattle.layout.specs.Recordings.{partOf}
 use Rattle.layout.specs.Parts.{countOf, entryAt, triangleFrom}
 use Rattle.layout.specs.Layout.{Layout}
 use Rattle.listing.specs.Pairs.{decisionAt, decisions}
-use Rattle.listing.specs.Leaks.{Leak, pairsMeeting, leakPairs, leakOf, leaks}
+use Rattle.listing.specs.Leaks.{Leak, tallyFor, leakPairs, leakOf, leaks, touchingPairs, touching}
 
--- the triangles a of recording i, as U, and b of recording j, as V, meet
-abbrev pub Meet : List ℕ → ℕ → ℕ → ℕ → ℕ → Type 0
-Meet file i j a b = meets (decisionAt file (entryAt file i) (entryAt file j) a b) ≡ true
+-- the triangles a of recording i, as U, and b of recording j, as V, overlap; or touch
+abbrev pub Overlap : List ℕ → ℕ → ℕ → ℕ → ℕ → Type 0
+Overlap file i j a b = overlaps (decisionAt file (entryAt file i) (entryAt file j) a b) ≡ true
 
--- i is a test recording and j a training recording, and at least one of their triangle pairs meets
-pub record Leaking (file : List ℕ) (i j : ℕ) : Type 0 where
+abbrev pub Touch : List ℕ → ℕ → ℕ → ℕ → ℕ → Type 0
+Touch file i j a b = touches (decisionAt file (entryAt file i) (entryAt file j) a b) ≡ true
+
+-- i is a test recording of the table and j a training recording
+pub record Compared (file : List ℕ) (i j : ℕ) : Type 0 where
   pub recording : i < countOf file
   pub test : entryAt file i .set ≡ 1
   pub other : j < countOf file
   pub training : entryAt file j .set ≡ 0
-  pub pair : (a : ℕ) × (b : ℕ) × (a < entryAt file i .count) × (b < entryAt file j .count) × Meet file i j a b
+
+-- a triangle of recording i and one of recording j of which something holds
+abbrev pub SomePair : List ℕ → ℕ → ℕ → (ℕ → ℕ → Type 0) → Type 0
+SomePair file i j Holds = (a : ℕ) × (b : ℕ) × (a < entryAt file i .count) × (b < entryAt file j .count) × Holds a b
+
+-- they leak: at least one of their triangle pairs overlaps
+pub record Leaking (file : List ℕ) (i j : ℕ) : Type 0 where
+  pub compared : Compared file i j
+  pub pair : SomePair file i j (Overlap file i j)
+
+-- they only touch: one of their triangle pairs touches and none overlaps
+pub record OnlyTouching (file : List ℕ) (i j : ℕ) : Type 0 where
+  pub compared : Compared file i j
+  pub pair : SomePair file i j (Touch file i j)
+  pub noOther : SomePair file i j (Overlap file i j) → ⊥
 
 -- table order: of test recordings, and of training recordings within a test recording
 abbrev pub InTableOrder : ℕ × ℕ → ℕ × ℕ → Type 0
@@ -40,6 +57,10 @@ pub record AllDecided (file : List ℕ) (i j : ℕ) : Type 0 where
 abbrev pub lineFor : List ℕ → ℕ → ℕ × ℕ
 lineFor file k = getD (leakPairs file) k (0, 0)
 
+-- and of those that only touch
+abbrev pub touchingFor : List ℕ → ℕ → ℕ × ℕ
+touchingFor file k = getD (touchingPairs file) k (0, 0)
+
 abbrev pub noLeak : Leak
 noLeak = record { test = 0; train = 0; pairs = 0 }
 
@@ -49,14 +70,19 @@ pub record ListDemand2 (file : List ℕ) : Type 0 where
   -- the lines are in table order; so no two are for the same two recordings
   pub inOrder : (k l : ℕ) → k < l → l < length (leakPairs file) → InTableOrder (lineFor file k) (lineFor file l)
   pub once : (k l : ℕ) → k < length (leakPairs file) → l < length (leakPairs file) → lineFor file k ≡ lineFor file l → k ≡ l
-  -- a line has the ids of its two recordings and N, and N is how many of their triangle pairs meet
+  -- a line has the ids of its two recordings and N, and N is how many of their triangle pairs overlap
   pub asMany : length (leaks file) ≡ length (leakPairs file)
   pub line : (k : ℕ) → k < length (leakPairs file) → getD (leaks file) k noLeak ≡ leakOf file (lineFor file k)
-  pub named : (i j : ℕ) → (leakOf file (i, j) .test ≡ entryAt file i .id) × (leakOf file (i, j) .train ≡ entryAt file j .id) × (leakOf file (i, j) .pairs ≡ pairsMeeting file (i, j))
-  pub counted : (i j : ℕ) → pairsMeeting file (i, j) ≡ count meets (decisions file (entryAt file i) (entryAt file j))
+  pub named : (i j : ℕ) → (leakOf file (i, j) .test ≡ entryAt file i .id) × (leakOf file (i, j) .train ≡ entryAt file j .id) × (leakOf file (i, j) .pairs ≡ tallyFor file (i, j) .overlapping)
+  pub counted : (i j : ℕ) → tallyFor file (i, j) .overlapping ≡ count overlaps (decisions file (entryAt file i) (entryAt file j))
   pub decided : (i j : ℕ) → AllDecided file i j
-  -- a held back recording has no part in any line
-  pub noHeldBack : (i j k : ℕ) → List·Memᴰ (i, j) (leakPairs file) → entryAt file k .set ≡ 2 → (i ≡ k → ⊥) × (j ≡ k → ⊥)
+  -- the last line's number is how many pairs there are of a test and a training recording that only touch: the pairs counted are those and no other, and each is counted once
+  pub touchingExactlyIf : (i j : ℕ) → List·Memᴰ (i, j) (touchingPairs file) ↔ OnlyTouching file i j
+  pub touchingInOrder : (k l : ℕ) → k < l → l < length (touchingPairs file) → InTableOrder (touchingFor file k) (touchingFor file l)
+  pub touchingOnce : (k l : ℕ) → k < length (touchingPairs file) → l < length (touchingPairs file) → touchingFor file k ≡ touchingFor file l → k ≡ l
+  pub touchingCounted : touching file ≡ length (touchingPairs file)
+  -- a held back recording has no part in any line, nor in what the last line counts
+  pub noHeldBack : (i j k : ℕ) → List·Memᴰ (i, j) (leakPairs file) ⊎ List·Memᴰ (i, j) (touchingPairs file) → entryAt file k .set ≡ 2 → (i ≡ k → ⊥) × (j ≡ k → ⊥)
 
 abbrev pub DemandTwo : Type 0
 DemandTwo = (file : List ℕ) → ListDemand2 file

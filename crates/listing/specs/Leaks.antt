@@ -1,14 +1,15 @@
--- 01, "The leak list": which pairs of recordings have a line, in which order, and what the line names. Definitions only.
+-- 01, "The leak list", with 02, No. 1: which pairs of recordings have a line, in which order, and what the line names; and which only touch. Definitions only.
 use Prim.Native.Nat.{ℕ}
 use mathlib.Core.Bool.{Bool}
 use mathlib.Core.List.{List, map}
-use lib.Dec.{ltb}
+use lib.ListN.{length}
 use Rattle.floats.specs.Lists.{filter}
 use Rattle.layout.specs.Parts.{countOf, entryAt}
 use Rattle.listing.specs.Turns.{upTo, each}
-use Rattle.listing.specs.Pairs.{isTest, isTraining, tallyOf}
+use Rattle.listing.specs.declared.Tally.{Tally}
+use Rattle.listing.specs.Pairs.{isTest, isTraining, tallyOf, leak, onlyTouch}
 
--- a leak line: the ids of the test and the training recording, and how many of their triangle pairs meet
+-- a leak line: the ids of the test and the training recording, and how many of their triangle pairs overlap
 pub record Leak : Type 0 where
   pub test : ℕ
   pub train : ℕ
@@ -29,24 +30,36 @@ module _ (file : List ℕ) where
   unfolding tests trainings each
   recordingPairs = each (λ i. map (λ j. (i, j)) trainings) tests
 
-  -- N: how many triangle pairs of the two recordings meet
-  unfoldable pub pairsMeeting : ℕ × ℕ → ℕ
+  -- what is counted of the two recordings
+  unfoldable pub tallyFor : ℕ × ℕ → Tally
   unfolding tallyOf entryAt
-  pairsMeeting p = tallyOf file (entryAt file (p .0)) (entryAt file (p .1)) .meeting
+  tallyFor p = tallyOf file (entryAt file (p .0)) (entryAt file (p .1))
 
-  -- two recordings have a line if any of their triangle pairs meets
+  -- two recordings have a line if they leak
   abbrev pub isLeak : ℕ × ℕ → Bool
-  isLeak p = ltb 0 (pairsMeeting p)
+  isLeak p = leak (tallyFor p)
 
   unfoldable pub leakPairs : List (ℕ × ℕ)
-  unfolding recordingPairs pairsMeeting filter
+  unfolding recordingPairs tallyFor filter
   leakPairs = filter isLeak recordingPairs
 
-  -- with the ids of both
+  -- with the ids of both, and N, how many of their triangle pairs overlap
   unfoldable pub leakOf : ℕ × ℕ → Leak
-  unfolding entryAt pairsMeeting
-  leakOf p = record { test = entryAt file (p .0) .id; train = entryAt file (p .1) .id; pairs = pairsMeeting p }
+  unfolding entryAt tallyFor
+  leakOf p = record { test = entryAt file (p .0) .id; train = entryAt file (p .1) .id; pairs = tallyFor p .overlapping }
 
   unfoldable pub leaks : List Leak
   unfolding leakPairs leakOf
   leaks = map leakOf leakPairs
+
+  -- two recordings that only touch are counted
+  abbrev pub isTouching : ℕ × ℕ → Bool
+  isTouching p = onlyTouch (tallyFor p)
+
+  unfoldable pub touchingPairs : List (ℕ × ℕ)
+  unfolding recordingPairs tallyFor filter
+  touchingPairs = filter isTouching recordingPairs
+
+  unfoldable pub touching : ℕ
+  unfolding touchingPairs
+  touching = length touchingPairs

@@ -1,4 +1,4 @@
--- 01, "The leak list": the list in lent room, refusal 7, and what the program writes. Definitions only.
+-- 01, "The leak list", with 02, No. 1: the list in lent room, refusal 7, and what the program writes. Definitions only.
 use Prim.Native.Nat.{ℕ}
 use mathlib.Core.Bool.{cond}
 use mathlib.Core.List.{List}
@@ -9,8 +9,8 @@ use Rattle.layout.specs.declared.Verdict.{Verdict}
 use Rattle.layout.specs.Verdict.{numberAt}
 use Rattle.layout.specs.Recordings.{unlessRefused}
 use Rattle.listing.specs.declared.Listed.{Listed}
-use Rattle.listing.specs.Leaks.{leaks}
-use Rattle.listing.specs.Words.{listText, refusedLine}
+use Rattle.listing.specs.Leaks.{Leak, leaks, touching}
+use Rattle.listing.specs.Words.{textOf, listText, refusedLine}
 
 -- what is answered, and the room afterwards
 pub record ListAndRoom : Type 0 where
@@ -19,20 +19,25 @@ pub record ListAndRoom : Type 0 where
 
 -- a refusal: its number and place, all else zero, and the room as it was
 abbrev pub noList : List ℕ → Verdict → ListAndRoom
-noList room v = record { result = record { number = v .number; place = v .place; length = 0; leaks = 0 }; room = room }
+noList room v = record { result = record { number = v .number; place = v .place; length = 0; leaks = 0; touching = 0 }; room = room }
 
 -- the room is shorter than the whole list
 abbrev pub tooShort : Verdict
 tooShort = numberAt 7 0
 
--- the list and its number of leaks: its length is told, and it stands at the front of the room, the rest of which stays
-abbrev pub listIn : List ℕ → List ℕ → ℕ → ListAndRoom
-listIn room text k = record { result = record { number = 0; place = 0; length = length text; leaks = k }; room = laid room 0 text }
+-- a list: its length, its leaks and how many pairs of recordings only touch are told, and it stands at the front of the room, the rest of which stays
+abbrev pub listIn : List ℕ → List ℕ → ℕ → ℕ → ListAndRoom
+listIn room text k t = record { result = record { number = 0; place = 0; length = length text; leaks = k; touching = t }; room = laid room 0 text }
+
+-- of these leaks and so many pairs of recordings that only touch: the list in the room, or refusal 7 where the room is shorter
+unfoldable pub listFrom : List Leak → ℕ → List ℕ → ListAndRoom
+unfolding textOf laid
+listFrom ls t room = let text = textOf ls t in cond (ltb (length room) (length text)) (noList room tooShort) (listIn room text (length ls) t)
 
 -- the file's own refusals first, then 7, then the list
 unfoldable pub listOf : List ℕ → List ℕ → ListAndRoom
-unfolding unlessRefused listText leaks laid
-listOf file room = let text = listText file in unlessRefused file (noList room) (cond (ltb (length room) (length text)) (noList room tooShort) (listIn room text (length (leaks file))))
+unfolding unlessRefused listFrom leaks touching
+listOf file room = unlessRefused file (noList room) (listFrom (leaks file) (touching file) room)
 
 -- what the program writes: the list, or one line that says how the file is refused
 unfoldable pub outputOf : List ℕ → List ℕ

@@ -1,12 +1,12 @@
--- 01, "The leak list": the triangle pairs of a test and a training recording, their decisions in order, and how many meet. Definitions only.
+-- 01, "The leak list", with 02, No. 1: the triangle pairs of a test and a training recording, their decisions in order, how many overlap and how many touch, and what that makes of the two recordings. Definitions only.
 use Prim.Native.Nat.{ℕ, _+_, _*_}
-use mathlib.Core.Bool.{Bool}
+use mathlib.Core.Bool.{Bool, _&&_}
 use mathlib.Core.List.{List, [], _∷_, _++_, map}
-use lib.Dec.{eqb}
+use lib.Dec.{eqb, ltb}
 use lib.Ieee.{Float}
 use Rattle.floats.specs.Lists.{once}
 use Rattle.triangles.specs.declared.Decision.{Decision}
-use Rattle.triangles.specs.Decision.{decisionOf, meets}
+use Rattle.triangles.specs.Decision.{decisionOf, overlaps, touches}
 use Rattle.layout.specs.declared.Entry.{Entry}
 use Rattle.layout.specs.Recordings.{f64At}
 use Rattle.listing.specs.declared.Tally.{Tally}
@@ -41,12 +41,20 @@ module _ (file : List ℕ) where
 
 -- nothing counted yet, and one more decision counted
 abbrev pub noneYet : Tally
-noneYet = record { meeting = 0 }
+noneYet = record { overlapping = 0; touching = 0 }
 
 abbrev pub tallied : Tally → Decision → Tally
-tallied t d = record { meeting = t .meeting + once (meets d) }
+tallied t d = record { overlapping = t .overlapping + once (overlaps d); touching = t .touching + once (touches d) }
 
 -- all of them counted, in their order
 unfoldable pub tallyOf : List ℕ → Entry → Entry → Tally
 unfolding decisions folded
 tallyOf file test train = folded tallied noneYet (decisions file test train)
+
+-- two recordings leak if one of their triangle pairs overlaps
+abbrev pub leak : Tally → Bool
+leak t = ltb 0 (t .overlapping)
+
+-- and only touch if one touches and none overlaps
+abbrev pub onlyTouch : Tally → Bool
+onlyTouch t = eqb (t .overlapping) 0 && ltb 0 (t .touching)

@@ -1,11 +1,11 @@
--- 01, "The leak list": its text, as bytes. Definitions only.
+-- 01, "The leak list", with 02, No. 1: its text, as bytes. Definitions only.
 use Prim.Native.Nat.{ℕ}
 use mathlib.Core.List.{List, [], _∷_, _++_}
 use lib.ListN.{length}
 use Rattle.text.specs.Decimal.{decimal}
 use Rattle.layout.specs.declared.Verdict.{Verdict}
 use Rattle.listing.specs.Turns.{each}
-use Rattle.listing.specs.Leaks.{Leak, leaks}
+use Rattle.listing.specs.Leaks.{Leak, leaks, touching}
 
 -- "leaks "
 abbrev pub leaksWord : List ℕ
@@ -23,6 +23,10 @@ trainWord = 32 ∷ 116 ∷ 114 ∷ 97 ∷ 105 ∷ 110 ∷ 32 ∷ []
 abbrev pub pairsWord : List ℕ
 pairsWord = 32 ∷ 112 ∷ 97 ∷ 105 ∷ 114 ∷ 115 ∷ 32 ∷ []
 
+-- "touching "
+abbrev pub touchingWord : List ℕ
+touchingWord = 116 ∷ 111 ∷ 117 ∷ 99 ∷ 104 ∷ 105 ∷ 110 ∷ 103 ∷ 32 ∷ []
+
 -- "refused "
 abbrev pub refusedWord : List ℕ
 refusedWord = 114 ∷ 101 ∷ 102 ∷ 117 ∷ 115 ∷ 101 ∷ 100 ∷ 32 ∷ []
@@ -35,27 +39,36 @@ atWord = 32 ∷ 97 ∷ 116 ∷ 32 ∷ []
 abbrev pub feed : List ℕ
 feed = 10 ∷ []
 
--- the first line: how many leak lines follow
-unfoldable pub firstLine : ℕ → List ℕ
+-- a line of a word and a number
+unfoldable pub countLine : List ℕ → ℕ → List ℕ
 unfolding decimal
-firstLine k = leaksWord ++ decimal k ++ feed
+countLine word k = word ++ decimal k ++ feed
+
+-- the first line: how many leak lines follow
+abbrev pub firstLine : ℕ → List ℕ
+firstLine k = countLine leaksWord k
 
 unfoldable pub leakLine : Leak → List ℕ
 unfolding decimal
 leakLine l = testWord ++ decimal (l .test) ++ trainWord ++ decimal (l .train) ++ pairsWord ++ decimal (l .pairs) ++ feed
 
--- the lines behind the leak lines: none today
-abbrev pub closingLines : List ℕ → List ℕ
-closingLines file = []
-
 unfoldable pub leakLines : List Leak → List ℕ
 unfolding leakLine each
 leakLines ls = each leakLine ls
 
--- the whole list
+-- the last line, also where the number is 0: how many pairs of recordings only touch
+abbrev pub closingLine : ℕ → List ℕ
+closingLine k = countLine touchingWord k
+
+-- the whole list of these leaks and of so many pairs of recordings that only touch
+unfoldable pub textOf : List Leak → ℕ → List ℕ
+unfolding countLine leakLines
+textOf ls k = firstLine (length ls) ++ leakLines ls ++ closingLine k
+
+-- the whole list of a file
 unfoldable pub listText : List ℕ → List ℕ
-unfolding firstLine leakLines leaks
-listText file = firstLine (length (leaks file)) ++ leakLines (leaks file) ++ closingLines file
+unfolding textOf leaks touching
+listText file = textOf (leaks file) (touching file)
 
 -- the one line that the program writes of a refused file
 unfoldable pub refusedLine : Verdict → List ℕ

@@ -1,4 +1,4 @@
--- Lists worked by hand: 01's example, rooms around its length, and files in which a wrong order, a wrong count, a wrong set or U for V would show. Definitions and statements.
+-- Lists worked by hand: 01's example with 02's last line, rooms around its length, files in which a wrong order, a wrong count, a wrong set or U for V would show, and files of recordings that share an edge, a part of one, or a corner. Definitions and statements.
 use Prim.Native.Nat.{ℕ, _+_}
 use mathlib.Core.Path.{_≡_}
 use mathlib.Core.List.{List, [], _∷_, _++_}
@@ -6,7 +6,7 @@ use lib.ListN.{replicate}
 use Rattle.layout.specs.Worked.{small, six, v, u, seven, nine, changed, trailer, pairOf, example}
 use Rattle.listing.specs.Listing.{listOf, outputOf}
 
--- a file and a room of so many points; number, place, length and leaks of the result, the room's front afterwards, behind which `points` points are left; what the program writes
+-- a file and a room of so many points; number, place, length, leaks and touching of the result, the room's front afterwards, behind which `points` points are left; what the program writes
 pub record Case : Type 0 where
   pub file : List ℕ
   pub room : ℕ
@@ -14,6 +14,7 @@ pub record Case : Type 0 where
   pub place : ℕ
   pub length : ℕ
   pub leaks : ℕ
+  pub touching : ℕ
   pub front : List ℕ
   pub points : ℕ
   pub output : List ℕ
@@ -26,6 +27,7 @@ pub record Shown (c : Case) : Type 0 where
   pub place : listOf (c .file) (pointsOf (c .room)) .result .place ≡ c .place
   pub length : listOf (c .file) (pointsOf (c .room)) .result .length ≡ c .length
   pub leaks : listOf (c .file) (pointsOf (c .room)) .result .leaks ≡ c .leaks
+  pub touching : listOf (c .file) (pointsOf (c .room)) .result .touching ≡ c .touching
   pub room : listOf (c .file) (pointsOf (c .room)) .room ≡ c .front ++ pointsOf (c .points)
   pub output : outputOf (c .file) ≡ c .output
 
@@ -39,6 +41,13 @@ lineWith t r n = 116 ∷ 101 ∷ 115 ∷ 116 ∷ 32 ∷ (t ++ (32 ∷ 116 ∷ 11
 abbrev pub line : ℕ → ℕ → ℕ → List ℕ
 line t r n = lineWith ((48 + t) ∷ []) ((48 + r) ∷ []) ((48 + n) ∷ [])
 
+-- `touching 0` with other digits in its place
+abbrev pub lastWith : List ℕ → List ℕ
+lastWith t = 116 ∷ 111 ∷ 117 ∷ 99 ∷ 104 ∷ 105 ∷ 110 ∷ 103 ∷ 32 ∷ (t ++ (10 ∷ []))
+
+abbrev pub last : ℕ → List ℕ
+last t = lastWith ((48 + t) ∷ [])
+
 -- `refused 13 at 72`
 abbrev pub refused13at72 : List ℕ
 refused13at72 = 114 ∷ 101 ∷ 102 ∷ 117 ∷ 115 ∷ 101 ∷ 100 ∷ 32 ∷ 49 ∷ 51 ∷ 32 ∷ 97 ∷ 116 ∷ 32 ∷ 55 ∷ 50 ∷ 10 ∷ []
@@ -51,7 +60,7 @@ abbrev pub firstTen : List ℕ
 firstTen = 108 ∷ 101 ∷ 97 ∷ 107 ∷ 115 ∷ 32 ∷ 49 ∷ 48 ∷ 10 ∷ []
 
 -- ---- files
--- U of cases E and F; and a U that has no ring with V of case D, though V taken as U would have one with it
+-- U of cases E and F; and a U that has no ring with V of case D, though V taken as U has one with it, at its corner and without an area
 abbrev pub uE : List ℕ
 uE = six (small 10) (small 10) (small 11) (small 10) (small 10) (small 11)
 
@@ -74,6 +83,34 @@ mixed =
 abbrev pub oneWay : List ℕ
 oneWay = pairOf v uOneWay seven nine
 
+abbrev pub otherWay : List ℕ
+otherWay = pairOf uOneWay v seven nine
+
+-- (1,0),(3,0),(2,−4), with a part of V's edge from (0,0) to (4,0); and (4,0),(8,0),(8,4), with V's corner (4,0) alone
+abbrev pub uPart : List ℕ
+uPart = six (small 1) (small 0) (small 3) (small 0) (small 2) (252 ∷ 255 ∷ 255 ∷ 255 ∷ [])
+
+abbrev pub uCorner : List ℕ
+uCorner = six (small 4) (small 0) (small 8) (small 0) (small 8) (small 4)
+
+-- U of F and of D with V: one pair touches, and one overlaps; in either order
+abbrev pub bothKinds : List ℕ → List ℕ → List ℕ
+bothKinds one other = one ++ (other ++ (v ++ (changed 9 0 2 0 1 0 ++ (changed 7 48 1 0 0 0 ++ trailer 72 2 108))))
+
+-- U (458,−958),(−13747,−4524),(−1189,−975) and V (−6479,−2470),(−805,−156),(−12827,−4264): V's edge from V2 to V0 lies on U's from U1 to U2, with U0 on one side and V1 on the other, so that in exact numbers they share that edge and no more; rounded, the ring has an area
+abbrev pub uRounded : List ℕ
+uRounded = six (202 ∷ 1 ∷ 0 ∷ 0 ∷ []) (66 ∷ 252 ∷ 255 ∷ 255 ∷ []) (77 ∷ 202 ∷ 255 ∷ 255 ∷ []) (84 ∷ 238 ∷ 255 ∷ 255 ∷ []) (91 ∷ 251 ∷ 255 ∷ 255 ∷ []) (49 ∷ 252 ∷ 255 ∷ 255 ∷ [])
+
+abbrev pub vRounded : List ℕ
+vRounded = six (177 ∷ 230 ∷ 255 ∷ 255 ∷ []) (90 ∷ 246 ∷ 255 ∷ 255 ∷ []) (219 ∷ 252 ∷ 255 ∷ 255 ∷ []) (100 ∷ 255 ∷ 255 ∷ 255 ∷ []) (229 ∷ 205 ∷ 255 ∷ 255 ∷ []) (88 ∷ 239 ∷ 255 ∷ 255 ∷ [])
+
+-- (0,−1),(−1,0),(0,3) and (4,1),(2,−1),(0,1): V's corner (0,1) lies on U's edge from (0,3) to (0,−1), a tie, and there is no ring
+abbrev pub uTied : List ℕ
+uTied = six (small 0) minusOne minusOne (small 0) (small 0) (small 3)
+
+abbrev pub vTied : List ℕ
+vTied = six (small 4) (small 1) (small 2) minusOne (small 0) (small 1)
+
 -- (6,0),(4,1),(4,−1): its edge from (4,1) to (4,−1) goes through V's corner (4,0), a tie. y, the lower line, is met first from (4,1), and then all of the edge is outside V; from (4,−1) it would be met at the corner
 abbrev pub uTurned : List ℕ
 uTurned = six (small 6) (small 0) (small 4) (small 1) (small 4) minusOne
@@ -86,10 +123,10 @@ vFar = six (small 20) (small 20) (small 21) (small 20) (small 20) (small 21)
 abbrev pub seconds : List ℕ
 seconds = uE ++ (u ++ (vFar ++ (v ++ (uTurned ++ (changed 9 0 2 0 1 0 ++ (changed 7 48 2 0 0 0 ++ (changed 4 96 1 0 1 0 ++ trailer 120 3 168)))))))
 
--- tests 1 and 2 with trainings 3 to 7, U and V of D each: ten lines, 264 bytes
-abbrev pub tenLines : List ℕ
-tenLines =
-    u ++ (u ++ (v ++ (v ++ (v ++ (v ++ (v
+-- tests 1 and 2 with one U each, and trainings 3 to 7 with V of D each: 264 bytes
+abbrev pub ten : List ℕ → List ℕ
+ten t =
+    t ++ (t ++ (v ++ (v ++ (v ++ (v ++ (v
     ++ (changed 1 0 1 0 1 0 ++ (changed 2 24 1 0 1 0 ++ (changed 3 48 1 0 0 0 ++ (changed 4 72 1 0 0 0 ++ (changed 5 96 1 0 0 0 ++ (changed 6 120 1 0 0 0 ++ (changed 7 144 1 0 0 0
     ++ (small 168 ++ (small 7 ++ (8 ∷ 1 ∷ 0 ∷ 0 ∷ []))))))))))))))))
 
@@ -109,32 +146,53 @@ abbrev pub tooMany : List ℕ
 tooMany = v ++ (u ++ (seven ++ (nine ++ trailer 48 65 84)))
 
 -- ---- what comes of them
-abbrev pub listed : List ℕ → ℕ → ℕ → ℕ → List ℕ → ℕ → Case
-listed file room length leaks text points = record { file = file; room = room; number = 0; place = 0; length = length; leaks = leaks; front = text; points = points; output = text }
+abbrev pub listed : List ℕ → ℕ → ℕ → ℕ → ℕ → List ℕ → ℕ → Case
+listed file room length leaks touching text points = record { file = file; room = room; number = 0; place = 0; length = length; leaks = leaks; touching = touching; front = text; points = points; output = text }
 
 abbrev pub notListed : List ℕ → ℕ → ℕ → ℕ → List ℕ → Case
-notListed file room number place output = record { file = file; room = room; number = number; place = place; length = 0; leaks = 0; front = []; points = room; output = output }
+notListed file room number place output = record { file = file; room = room; number = number; place = place; length = 0; leaks = 0; touching = 0; front = []; points = room; output = output }
+
+-- the list with one line, of test 9 and training 7, and that of none, with so many that only touch
+abbrev pub oneLine : List ℕ
+oneLine = first 1 ++ (line 9 7 1 ++ last 0)
+
+abbrev pub noLine : ℕ → List ℕ
+noLine t = first 0 ++ last t
 
 abbrev pub cases : List Case
 cases =
-    -- 01's example: in a room that is longer, in one of its length, in one that is a byte shorter
-    listed example 40 31 1 (first 1 ++ line 9 7 1) 9
-    ∷ listed example 31 31 1 (first 1 ++ line 9 7 1) 0
-    ∷ notListed example 30 7 0 (first 1 ++ line 9 7 1)
+    -- 01's example: in a room that is longer, in one of its length, in one that is a byte shorter, and in one that its first two lines would fit
+    listed example 51 42 1 0 oneLine 9
+    ∷ listed example 42 42 1 0 oneLine 0
+    ∷ notListed example 41 7 0 oneLine
+    ∷ notListed example 31 7 0 oneLine
     -- no recordings
-    ∷ listed (trailer 0 0 12) 8 8 0 (first 0) 0
-    ∷ notListed (trailer 0 0 12) 7 7 0 (first 0)
-    -- table order, held back left out, several pairs, a pair that only touches, numbers of several digits, U and V not exchanged
-    ∷ listed mixed 101 100 4 (first 4 ++ (line 9 7 1 ++ (line 9 3 2 ++ (line 4 7 1 ++ line 4 3 2)))) 1
-    ∷ listed oneWay 8 8 0 (first 0) 0
-    ∷ listed largeIds 41 41 1 (first 1 ++ lineWith (52 ∷ 50 ∷ 57 ∷ 52 ∷ 57 ∷ 54 ∷ 55 ∷ 50 ∷ 57 ∷ 53 ∷ []) (49 ∷ 48 ∷ []) (49 ∷ [])) 0
-    ∷ listed twelve 32 32 1 (first 1 ++ lineWith (57 ∷ []) (55 ∷ []) (49 ∷ 50 ∷ [])) 0
+    ∷ listed (trailer 0 0 12) 19 19 0 0 (noLine 0) 0
+    ∷ notListed (trailer 0 0 12) 18 7 0 (noLine 0)
+    -- table order, held back left out, several pairs, recordings that only touch, one of them in two triangle pairs
+    ∷ listed mixed 66 65 2 2 (first 2 ++ (line 9 7 1 ++ (line 9 3 2 ++ last 2))) 1
+    -- a part of an edge, a corner
+    ∷ listed (pairOf v uPart seven nine) 19 19 0 1 (noLine 1) 0
+    ∷ listed (pairOf v uCorner seven nine) 19 19 0 1 (noLine 1) 0
+    -- U and V not exchanged
+    ∷ listed oneWay 19 19 0 0 (noLine 0) 0
+    ∷ listed otherWay 19 19 0 1 (noLine 1) 0
+    -- one pair touches and one overlaps: a line, and not among those that only touch
+    ∷ listed (bothKinds uF u) 42 42 1 0 oneLine 0
+    ∷ listed (bothKinds u uF) 42 42 1 0 oneLine 0
+    -- by the computed area, and by the computed ring
+    ∷ listed (pairOf vRounded uRounded seven nine) 42 42 1 0 oneLine 0
+    ∷ listed (pairOf vTied uTied seven nine) 19 19 0 0 (noLine 0) 0
+    -- numbers of several digits
+    ∷ listed largeIds 52 52 1 0 (first 1 ++ (lineWith (52 ∷ 50 ∷ 57 ∷ 52 ∷ 57 ∷ 54 ∷ 55 ∷ 50 ∷ 57 ∷ 53 ∷ []) (49 ∷ 48 ∷ []) (49 ∷ []) ++ last 0)) 0
+    ∷ listed twelve 43 43 1 0 (first 1 ++ (lineWith (57 ∷ []) (55 ∷ []) (49 ∷ 50 ∷ []) ++ last 0)) 0
     -- of several triangles the second with the second, and a tie that turns on the order of U's vertices
-    ∷ listed seconds 31 31 1 (first 1 ++ line 9 7 1) 0
-    -- ten lines
-    ∷ listed tenLines 239 239 10 (firstTen ++ (fiveLines 1 ++ fiveLines 2)) 0
+    ∷ listed seconds 42 42 1 0 oneLine 0
+    -- ten lines, and ten that only touch
+    ∷ listed (ten u) 250 250 10 0 (firstTen ++ (fiveLines 1 ++ (fiveLines 2 ++ last 0))) 0
+    ∷ listed (ten uF) 20 20 0 10 (first 0 ++ lastWith (49 ∷ 48 ∷ [])) 0
     -- a refused file, before the room is looked at
-    ∷ notListed tooMany 40 13 72 refused13at72
+    ∷ notListed tooMany 51 13 72 refused13at72
     ∷ notListed tooMany 0 13 72 refused13at72
-    ∷ notListed [] 40 11 0 refused11at0
+    ∷ notListed [] 51 11 0 refused11at0
     ∷ []

@@ -1,5 +1,6 @@
 // The functions that programs in other languages call; include/meskelow.h declares them.
 ghost use Rattle.triangles.specs.Promise.{PairPromise};
+ghost use Rattle.triangles.specs.Decision.{SaidOf};
 ghost use Rattle.layout.specs.Promise.{Checked, Recorded};
 ghost use Rattle.listing.specs.Promise.{ListPromise};
 
@@ -9,6 +10,14 @@ pub extern "C" fn meskelow_intersect(values: &[f64], room: &mut [f64]) -> triang
     ensures { λ r. ⌜ PairPromise (now (values .entry)) (now (room .entry)) r (now (room .exit)) ⌝ }
 {
     routine::intersect(values, room)
+}
+
+// Two triangles, U0x, U0y, .. V2y: their kind, 0 apart, 1 touching, 2 overlapping, and their area, or a refusal's number with zeros.
+#[no_mangle]
+pub extern "C" fn meskelow_decide(values: &[f64]) -> triangles::Said
+    ensures { λ r. ⌜ SaidOf (now (values .entry)) r ⌝ }
+{
+    routine::decide(values)
 }
 
 // A file's bytes: number 0 and place 0 if it has the layout of a footprint file, else the refusal and its place.
@@ -27,7 +36,7 @@ pub extern "C" fn meskelow_recording(file: &[u8], k: usize) -> layout::Recording
     recordings::recording(file, k)
 }
 
-// The leak list of a file's bytes: its length and the number of its leaks, with the list at the front of the room, or a refusal's number and place with zeros, with the room as it was.
+// The leak list of a file's bytes: its length, the number of its leaks and that of the pairs of recordings that only touch, with the list at the front of the room, or a refusal's number and place with zeros, with the room as it was.
 #[no_mangle]
 pub extern "C" fn meskelow_leaks(file: &[u8], room: &mut [u8]) -> listing::Listed
     ensures { λ r. ⌜ ListPromise (now (file .entry)) (now (room .entry)) r (now (room .exit)) ⌝ }

@@ -13,8 +13,8 @@ use Rattle.triangles.specs.declared.Decision.{Decision}
 use Rattle.triangles.specs.declared.Decision.the-variants.{Apart}
 use Rattle.triangles.specs.Answers.{refusal}
 use Rattle.triangles.specs.Promise.{PairPromise}
-use Rattle.triangles.specs.Decision.{enough, decided, decisionOf, Decided}
-use Rattle.triangles.proofs.Decided.{keeps}
+use Rattle.triangles.specs.declared.Said.{Said}
+use Rattle.triangles.specs.Decision.{enough, decided, decisionOf, said, Decided, SaidOf}
 use Rattle.front.specs.Front.{beyondBy}
 use Rattle.shapes.specs.declared.Shape.{Shape}
 use Rattle.shapes.specs.Shapes.{Made, first, second, third, sideA, sideB, twelve}
@@ -25,7 +25,11 @@ use Rattle.routine.proofs.Shapes.{shapes-give}
 
 pub decision-is : (l : List Float) {a : Answer} {after : List Float} {r : Decision} → PairPromise l enough a after → r ≡ decided a → Decided l r
 unfolding decisionOf
-decision-is l h e = keeps l (e ∙ ap decided (h .result-is))
+decision-is l h e = record { result-is = e ∙ ap decided (h .result-is) }
+
+-- in numbers
+pub said-is : (l : List Float) {d : Decision} {r : Said} → Decided l d → r ≡ said d → SaidOf l r
+said-is l h e = record { result-is = e ∙ ap said (h .result-is) }
 
 -- number 0 and no corners
 apart-is : (l : List Float) {after : List Float} → PairPromise l enough (refusal 0) after → Decided l Apart

@@ -7,13 +7,13 @@ ghost use lib.ListN.{length, take};
 ghost use Rattle.walk.specs.Code.{flagsAndRing};
 ghost use Rattle.triangles.specs.Answers.{refusal, written};
 ghost use Rattle.triangles.specs.Promise.{PairPromise};
-ghost use Rattle.triangles.specs.Decision.{Decided};
+ghost use Rattle.triangles.specs.Decision.{Decided, SaidOf};
 ghost use Rattle.routine.specs.Code.{Leaves, placedAs, orderedBy, settledBy, decisionBy};
 use spots::area_of;
 use spots::corners_of;
 use spots::position_at;
 
-// A number, and zeros: a refusal, or with 0 the answer of a pair of which nothing meets.
+// A number, and zeros: a refusal, or with 0 the answer of a pair without a ring.
 fn refused(k: u32) -> triangles::Answer
     ensures { λ r. ⌜ r ≡ refusal k ⌝ }
 {
@@ -153,6 +153,13 @@ pub fn decision(values: &[f64]) -> triangles::Decision
 {
     let mut room = [0.0; 12];
     decisions::decision_from(intersect(values, &mut room))
+}
+
+// The same in numbers: 0 with the kind and the area, or a refusal's number with zeros.
+pub fn decide(values: &[f64]) -> triangles::Said
+    ensures { λ r. ⌜ SaidOf (now (values .entry)) r ⌝ }
+{
+    decisions::said_of(decision(values))
 }
 
 // What is decided of two shapes, by their sides and crosses as they stand. Where each was made ready by `shapes::shape_of` it is what is decided of their

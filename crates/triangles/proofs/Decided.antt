@@ -1,79 +1,183 @@
--- The decision of every list of values says the number, the ring and the area of its answer, and no second one does. Assumes nothing.
-use mathlib.Core.Path.{_≡_, refl, sym, ap, _∙_}
+-- Every list of values overlaps, touches or is apart, exactly one of them, by its answer's number, n and area; what is said of it is the answer's number, its kind and the area; and no second answer fits. Assumes nothing.
+use mathlib.Core.Path.{_≡_, refl, sym, ap, subst, _∙_}
 use mathlib.Core.Logic.{_⊎_, inl, inr, _↔_}
-use mathlib.Core.Bool.{Bool, true, false, false≢true}
+use mathlib.Core.Bool.{Bool, true, false, cond, true≢false, false≢true}
 use mathlib.Core.List.{List, [], _∷_, map}
 use Prim.Native.Nat.{ℕ, _≤_}
 use native.Mathlib.Omega.{arith}
 use lib.Dec.{eqb}
-use borrow.Author.Tests.{ne-eqb, eqb-true, eqb-false, le-ltb}
-use lib.Ieee.{Float}
+use borrow.Author.Tests.{eq-eqb, ne-eqb, eqb-true, eqb-false, le-ltb}
+use lib.Ieee.{Float, lt, ofBits}
 use lib.ListN.{length}
-use Rattle.floats.specs.Finite.{nought}
+use Rattle.floats.specs.Finite.{finite, nought}
+use Rattle.floats.specs.Lists.{count}
 use Rattle.ring.specs.Places.{Place}
 use Rattle.triangles.specs.declared.Answer.{Answer}
+use Rattle.triangles.specs.declared.Decision.{Decision}
+use Rattle.triangles.specs.declared.Decision.the-variants.{Refused, Overlapping, Touching, Apart}
 use Rattle.triangles.specs.Pair.{ringOf}
 use Rattle.triangles.specs.Positions.{positionOf, ringPositions, areaOf}
 use Rattle.triangles.specs.Refusals.{Row, lengths, coordinates, wayToD, dZero, wayToE, eZero, wayToParameter, wayToPairTest, wayToPosition, wayToArea, table, rowTest, firstOf, refusalOf}
-use Rattle.triangles.specs.Answers.{refusal, answerOf, answered, wholeOf}
-use Rattle.triangles.specs.Decision.{Decided, NoSecondDecision, said, saidOf, enough, answerTo, decided, decisionOf, meets, MeetsExactlyIf, AnyRoom}
-use Rattle.triangles.proofs.Rows.{answered-is, refused-is}
+use Rattle.triangles.specs.Answers.{answerOf, answered, wholeOf}
+use Rattle.triangles.specs.Rows.{RefusedBy}
+use Rattle.triangles.specs.Decision.{isAbove, decided, enough, answerTo, decisionOf, overlaps, touches, isApart, said, OverlapsBy, TouchesBy, ApartBy, KindBy, OneKind, NoSecondDecision, NoSecondSaid, SaidDemand, SaidReturned, AnyRoom}
+use Rattle.triangles.proofs.Rows.{answered-is, refused-is, exactly-when}
+use Rattle.triangles.proofs.FiniteAnswer.{finite-answer}
+use Rattle.triangles.proofs.Areas.{area-nought}
 
 pub no-second-decision : NoSecondDecision
 no-second-decision values r s p q = p .result-is ∙ sym (q .result-is)
 
+pub no-second-said : NoSecondSaid
+no-second-said values r s p q = p .result-is ∙ sym (q .result-is)
+
+-- ---- what there is of an answer: refused, with zeros; no ring, and area 0.0; a ring, and an area above zero or 0.0
+data Found (a : Answer) : Type 0 where
+  refusedAs : (a .number ≡ 0 → ⊥) → a .n ≡ 0 → a .area ≡ nought → Found a
+  ringless : a .number ≡ 0 → a .n ≡ 0 → a .area ≡ nought → Found a
+  withArea : a .number ≡ 0 → (a .n ≡ 0 → ⊥) → isAbove (a .area) ≡ true → Found a
+  without : a .number ≡ 0 → (a .n ≡ 0 → ⊥) → a .area ≡ nought → Found a
+
+not-nought : isAbove nought ≡ false
+unfolding lt ofBits
+not-nought = refl
+
+-- the decision of each
+module _ (a : Answer) where
+  of-refused : (a .number ≡ 0 → ⊥) → decided a ≡ Refused (a .number)
+  unfolding decided
+  of-refused h = rw (ne-eqb (a .number) 0 h) refl
+
+  of-ringless : a .number ≡ 0 → a .n ≡ 0 → decided a ≡ Apart
+  unfolding decided
+  of-ringless z n = rw (z, n) refl
+
+  of-area : a .number ≡ 0 → (a .n ≡ 0 → ⊥) → isAbove (a .area) ≡ true → decided a ≡ Overlapping (a .area)
+  unfolding decided
+  of-area z n h = rw (eq-eqb (a .number) 0 z, ne-eqb (a .n) 0 n, h) refl
+
+  of-none : a .number ≡ 0 → (a .n ≡ 0 → ⊥) → a .area ≡ nought → decided a ≡ Touching
+  unfolding decided
+  of-none z n h = rw (eq-eqb (a .number) 0 z, ne-eqb (a .n) 0 n, ap isAbove h ∙ not-nought) refl
+
+  -- which kind
+  not-overlapping : a .number ≡ 0 → (a .n ≡ 0) ⊎ (a .area ≡ nought) → OverlapsBy a → ⊥
+  not-overlapping z h (inl k) = k z
+  not-overlapping z (inl n) (inr k) = k .0 n
+  not-overlapping z (inr e) (inr k) = false≢true (sym (ap isAbove e ∙ not-nought) ∙ k .1)
+
+  kind-by : Found a → KindBy a (decided a)
+  kind-by (refusedAs h n e) = rw (of-refused h) (record {
+    overlapping = (λ p. inl h, λ p. refl);
+    touching = (λ p. absurd (false≢true p), λ p. absurd (h (p .0)));
+    apart = (λ p. absurd (false≢true p), λ p. absurd (h (p .0)));
+    one = unfold count in refl;
+  })
+  kind-by (ringless z n e) = rw (of-ringless z n) (record {
+    overlapping = (λ p. absurd (false≢true p), λ p. absurd (not-overlapping z (inl n) p));
+    touching = (λ p. absurd (false≢true p), λ p. absurd (p .1 n));
+    apart = (λ p. (z, n), λ p. refl);
+    one = unfold count in refl;
+  })
+  kind-by (withArea z n h) = rw (of-area z n h) (record {
+    overlapping = (λ p. inr (n, h), λ p. refl);
+    touching = (λ p. absurd (false≢true p), λ p. absurd (true≢false (sym h ∙ (ap isAbove (p .2) ∙ not-nought))));
+    apart = (λ p. absurd (false≢true p), λ p. absurd (n (p .1)));
+    one = unfold count in refl;
+  })
+  kind-by (without z n e) = rw (of-none z n e) (record {
+    overlapping = (λ p. absurd (false≢true p), λ p. absurd (not-overlapping z (inr e) p));
+    touching = (λ p. (z, n, e), λ p. refl);
+    apart = (λ p. absurd (false≢true p), λ p. absurd (n (p .1)));
+    one = unfold count in refl;
+  })
+
+-- ---- of any list of values
 -- without a ring the area is 0.0
 no-ring : (l : List Float) (r : List Place) → length r ≡ 0 → areaOf (map (positionOf l) r) .value ≡ nought
 unfolding areaOf
 no-ring l [] h = refl
 no-ring l (p ∷ r) h = absurd (omega (arith, h))
 
-says-refusal : (k : ℕ) → (k ≡ 0 → ⊥) → said (decided (refusal k)) ≡ saidOf (refusal k)
-unfolding decided
-says-refusal k h = rw (ne-eqb k 0 h) refl
+module _ (l : List Float) where
+  of-answer : finite (answerOf l .area) ≡ true → Found (answerOf l)
+  unfolding answerOf ringPositions
+  of-answer f = go (eqb (length (ringOf l)) 0) refl (isAbove (areaOf (ringPositions l) .value)) refl
+    where
+      go : (b : Bool) → eqb (length (ringOf l)) 0 ≡ b → (c : Bool) → isAbove (areaOf (ringPositions l) .value) ≡ c → Found (answerOf l)
+      go true e c h = let n = eqb-true (length (ringOf l)) 0 e in ringless refl n (no-ring l (ringOf l) n)
+      go false e true h = withArea refl (eqb-false (length (ringOf l)) 0 e) h
+      go false e false h = without refl (eqb-false (length (ringOf l)) 0 e) (area-nought (ringPositions l) f h)
 
--- an answer without a number says so, with a ring or without
-says-answer : (a : Answer) → a .number ≡ 0 → (a .n ≡ 0 → a .area ≡ nought) → said (decided a) ≡ saidOf a
-unfolding decided
-says-answer a z h = go (eqb (a .n) 0) refl
-  where
-    go : (b : Bool) → eqb (a .n) 0 ≡ b → said (decided a) ≡ saidOf a
-    go true e = rw (z, e, h (eqb-true (a .n) 0 e)) refl
-    go false e = rw (z, e) refl
+  found : Found (answerTo l)
+  found = go (eqb (refusalOf l enough) 0) refl
+    where
+      go : (b : Bool) → eqb (refusalOf l enough) 0 ≡ b → Found (answerTo l)
+      go true e = let q = answered-is l enough (eqb-true (refusalOf l enough) 0 e) in
+          subst Found (sym (ap (λ w. w .answer) q)) (unfold answered in of-answer (subst (λ w. finite (w .answer .area) ≡ true) q (finite-answer l enough (ap (λ w. w .answer .number) q ∙ (unfold answered answerOf in refl)) .area)))
+      go false e = let h = eqb-false (refusalOf l enough) 0 e in
+          subst Found (sym (ap (λ w. w .answer) (refused-is l enough h))) (refusedAs h refl refl)
 
-of-answer : (l : List Float) → said (decided (answerOf l)) ≡ saidOf (answerOf l)
-unfolding answerOf ringPositions
-of-answer l = says-answer (answerOf l) refl (no-ring l (ringOf l))
+  kind-of : KindBy (answerTo l) (decisionOf l)
+  unfolding decisionOf
+  kind-of = kind-by (answerTo l) found
 
-pub says : (l : List Float) → said (decisionOf l) ≡ saidOf (answerTo l)
+pub one-kind : OneKind
+one-kind values = kind-of values
+
+-- ---- what is said
+module _ (l : List Float) where
+  abbrev a : Answer
+  a = answerTo l
+
+  refused-by : {n : ℕ} → n ≡ a .number → (k : ℕ) → (k ≡ 0 → ⊥) → (n ≡ k) ↔ RefusedBy k l enough
+  refused-by e k h = let w = exactly-when l enough .refusedBy k h in (λ p. w .0 (sym e ∙ p), λ p. e ∙ w .1 p)
+
+  said-by : Found a → SaidDemand l (said (decided a))
+  said-by (refusedAs h n e) = rw (of-refused a h) (record {
+    refusedBy = refused-by refl;
+    number = refl;
+    area = sym e;
+    overlapping = (λ p. absurd (omega (arith, p)), λ p. absurd (p .0 n));
+    touching = (λ p. absurd (omega (arith, p)), λ p. absurd (h (p .0)));
+    apart = (λ p. absurd (h (p .0)), λ p. absurd (h (p .0)));
+    kinds = omega arith;
+    zeros = λ p. (refl, refl);
+  })
+  said-by (ringless z n e) = rw (of-ringless a z n) (record {
+    refusedBy = refused-by (sym z);
+    number = sym z;
+    area = sym e;
+    overlapping = (λ p. absurd (omega (arith, p)), λ p. absurd (p .0 n));
+    touching = (λ p. absurd (omega (arith, p)), λ p. absurd (p .1 n));
+    apart = (λ p. (z, n), λ p. (refl, refl));
+    kinds = omega arith;
+    zeros = λ p. absurd (p refl);
+  })
+  said-by (withArea z n h) = rw (of-area a z n h) (record {
+    refusedBy = refused-by (sym z);
+    number = sym z;
+    area = refl;
+    overlapping = (λ p. (n, h), λ p. refl);
+    touching = (λ p. absurd (omega (arith, p)), λ p. absurd (true≢false (sym h ∙ (ap isAbove (p .2) ∙ not-nought))));
+    apart = (λ p. let k = p .1 in absurd (omega (arith, k)), λ p. absurd (n (p .1)));
+    kinds = omega arith;
+    zeros = λ p. absurd (p refl);
+  })
+  said-by (without z n e) = rw (of-none a z n e) (record {
+    refusedBy = refused-by (sym z);
+    number = sym z;
+    area = sym e;
+    overlapping = (λ p. absurd (omega (arith, p)), λ p. absurd (true≢false (sym (p .1) ∙ (ap isAbove e ∙ not-nought))));
+    touching = (λ p. (z, n, e), λ p. refl);
+    apart = (λ p. let k = p .1 in absurd (omega (arith, k)), λ p. absurd (n (p .1)));
+    kinds = omega arith;
+    zeros = λ p. absurd (p refl);
+  })
+
+pub said-returned : SaidReturned
 unfolding decisionOf
-says l = go (eqb (refusalOf l enough) 0) refl
-  where
-    go : (b : Bool) → eqb (refusalOf l enough) 0 ≡ b → said (decided (wholeOf l enough .answer)) ≡ saidOf (wholeOf l enough .answer)
-    go true e = rw (answered-is l enough (eqb-true (refusalOf l enough) 0 e)) (unfold answered in of-answer l)
-    go false e = let h = eqb-false (refusalOf l enough) 0 e in rw (refused-is l enough h) (says-refusal (refusalOf l enough) h)
-
--- the promise of a decision that is the definition's
-pub keeps : (l : List Float) {r : _} → r ≡ decisionOf l → Decided l r
-keeps l h = record { result-is = h; says = ap said h ∙ says l }
-
--- ---- when a pair meets
-meets-as : (a : Answer) → (meets (decided a) ≡ true) ↔ ((a .number ≡ 0 → ⊥) ⊎ (a .n ≡ 0 → ⊥))
-unfolding decided
-meets-as a = go (eqb (a .number) 0) refl (eqb (a .n) 0) refl
-  where
-    neither : a .number ≡ 0 → a .n ≡ 0 → (a .number ≡ 0 → ⊥) ⊎ (a .n ≡ 0 → ⊥) → ⊥
-    neither k n (inl h) = h k
-    neither k n (inr h) = h n
-
-    go : (b : Bool) → eqb (a .number) 0 ≡ b → (c : Bool) → eqb (a .n) 0 ≡ c → (meets (decided a) ≡ true) ↔ ((a .number ≡ 0 → ⊥) ⊎ (a .n ≡ 0 → ⊥))
-    go false e c f = rw e (λ h. inl (eqb-false (a .number) 0 e), λ h. refl)
-    go true e false f = rw (e, f) (λ h. inr (eqb-false (a .n) 0 f), λ h. refl)
-    go true e true f = rw (e, f) (λ h. absurd (false≢true h), λ h. absurd (neither (eqb-true (a .number) 0 e) (eqb-true (a .n) 0 f) h))
-
-pub meets-exactly : MeetsExactlyIf
-unfolding decisionOf
-meets-exactly values = meets-as (answerTo values)
+said-returned values result p = subst (SaidDemand values) (sym (p .result-is)) (said-by values (found values))
 
 -- ---- the room
 module _ (l room : List Float) (long : 12 ≤ length room) where

@@ -1,40 +1,30 @@
--- 01, "The leak list": what is decided of a pair of triangles, and when it meets. Whatever is asked of pairs above the triangles is asked of this decision. Definitions and statements.
+-- 02, No. 1, in the place of 01's "meets": what is decided of a pair of triangles, and whether it overlaps, touches or is apart. Whatever is asked of pairs above the triangles is asked of this decision. Definitions and statements.
 use mathlib.Core.Path.{_≡_}
 use mathlib.Core.Logic.{_⊎_, _↔_}
-use mathlib.Core.Bool.{Bool, true, false, not, cond}
+use mathlib.Core.Bool.{Bool, true, false, cond}
 use mathlib.Core.List.{List, [], _∷_}
 use Prim.Native.Nat.{ℕ, _≤_}
 use lib.Dec.{eqb}
 use lib.ListN.{length}
-use lib.Ieee.{Float}
+use lib.Ieee.{Float, lt}
 use Rattle.floats.specs.Finite.{nought}
+use Rattle.floats.specs.Lists.{count}
 use Rattle.floats.specs.OneAnswer.{NoSecond}
 use Rattle.triangles.specs.declared.Answer.{Answer}
+use Rattle.triangles.specs.declared.Said.{Said}
 use Rattle.triangles.specs.declared.Decision.{Decision}
-use Rattle.triangles.specs.declared.Decision.the-variants.{Refused, Ring, Apart}
+use Rattle.triangles.specs.declared.Decision.the-variants.{Refused, Overlapping, Touching, Apart}
 use Rattle.triangles.specs.Answers.{wholeOf}
+use Rattle.triangles.specs.Rows.{RefusedBy}
 
--- the paper's values of a decision: the refusal's number or 0, whether the ring has corners, its area
-pub record Said : Type 0 where
-  pub number : ℕ
-  pub ring : Bool
-  pub area : Float
+-- ---- the decision of an answer
+-- above zero, asked of the area as it was computed
+abbrev pub isAbove : Float → Bool
+isAbove area = lt nought area
 
--- .. case by case
-abbrev pub said : Decision → Said
-said (Refused k) = record { number = k; ring = false; area = nought }
-said (Ring a) = record { number = 0; ring = true; area = a }
-said Apart = record { number = 0; ring = false; area = nought }
-
--- the same values of an answer
-abbrev pub saidOf : Answer → Said
-saidOf a = record { number = a .number; ring = not (eqb (a .n) 0); area = a .area }
-
--- two triangles meet where the ring has corners, and also where the pair is refused
-abbrev pub meets : Decision → Bool
-meets (Refused k) = true
-meets (Ring a) = true
-meets Apart = false
+-- a refusal with its number; no corners: apart; corners and an area above zero: overlapping, with that area; corners and none: touching
+unfoldable pub decided : Answer → Decision
+decided a = cond (eqb (a .number) 0) (cond (eqb (a .n) 0) Apart (cond (isAbove (a .area)) (Overlapping (a .area)) Touching)) (Refused (a .number))
 
 -- no room is lent for a decision: refusal 1 is of the input alone
 abbrev pub enough : List Float
@@ -43,27 +33,96 @@ enough = nought ∷ nought ∷ nought ∷ nought ∷ nought ∷ nought ∷ nough
 abbrev pub answerTo : List Float → Answer
 answerTo values = wholeOf values enough .answer
 
--- an answer as a decision
-unfoldable pub decided : Answer → Decision
-decided a = cond (eqb (a .number) 0) (cond (eqb (a .n) 0) Apart (Ring (a .area))) (Refused (a .number))
-
 -- the pair decision
 unfoldable pub decisionOf : List Float → Decision
 unfolding decided wholeOf
 decisionOf values = decided (answerTo values)
 
--- what is promised of a decision, of any list of values: it is the definition's, and says the answer's number, ring and area
+-- ---- the three kinds of pair
+-- it overlaps, also where it is refused
+abbrev pub overlaps : Decision → Bool
+overlaps (Refused k) = true
+overlaps (Overlapping a) = true
+overlaps Touching = false
+overlaps Apart = false
+
+-- it touches
+abbrev pub touches : Decision → Bool
+touches (Refused k) = false
+touches (Overlapping a) = false
+touches Touching = true
+touches Apart = false
+
+-- else it is apart
+abbrev pub isApart : Decision → Bool
+isApart (Refused k) = false
+isApart (Overlapping a) = false
+isApart Touching = false
+isApart Apart = true
+
+-- ---- what is said of a decision
+-- the number of a refusal, or 0; the kind, 0 apart, 1 touching, 2 overlapping; the area. Beside a refusal's number there are zeros
+abbrev pub said : Decision → Said
+said (Refused k) = record { number = k; kind = 0; area = nought }
+said (Overlapping a) = record { number = 0; kind = 2; area = a }
+said Touching = record { number = 0; kind = 1; area = nought }
+said Apart = record { number = 0; kind = 0; area = nought }
+
+-- ---- which kind, by the answer's number, n and area
+-- refused, or a ring that is not empty and an area above zero
+abbrev pub OverlapsBy : Answer → Type 0
+OverlapsBy a = (a .number ≡ 0 → ⊥) ⊎ ((a .n ≡ 0 → ⊥) × (isAbove (a .area) ≡ true))
+
+-- a ring that is not empty and an area of zero
+abbrev pub TouchesBy : Answer → Type 0
+TouchesBy a = (a .number ≡ 0) × (a .n ≡ 0 → ⊥) × (a .area ≡ nought)
+
+-- an answer without a ring
+abbrev pub ApartBy : Answer → Type 0
+ApartBy a = (a .number ≡ 0) × (a .n ≡ 0)
+
+pub record KindBy (a : Answer) (d : Decision) : Type 0 where
+  pub overlapping : (overlaps d ≡ true) ↔ OverlapsBy a
+  pub touching : (touches d ≡ true) ↔ TouchesBy a
+  pub apart : (isApart d ≡ true) ↔ ApartBy a
+  -- exactly one of the three
+  pub one : count (λ (is : Decision → Bool). is d) (overlaps ∷ touches ∷ isApart ∷ []) ≡ 1
+
+-- every list of values is of exactly one kind, and its answer says which
+abbrev pub OneKind : Type 0
+OneKind = (values : List Float) → KindBy (answerTo values) (decisionOf values)
+
+-- ---- what is promised of a decision, of any list of values: it is the definition's
 pub record Decided (values : List Float) (result : Decision) : Type 0 where
   pub result-is : result ≡ decisionOf values
-  pub says : said result ≡ saidOf (answerTo values)
 
 -- no second decision meets it
 abbrev pub NoSecondDecision : Type 0
 NoSecondDecision = (values : List Float) → NoSecond Decision (Decided values)
 
--- a pair meets exactly if its answer is a refusal or has corners
-abbrev pub MeetsExactlyIf : Type 0
-MeetsExactlyIf = (values : List Float) → (meets (decisionOf values) ≡ true) ↔ ((answerTo values .number ≡ 0 → ⊥) ⊎ (answerTo values .n ≡ 0 → ⊥))
+-- and of what is said of it
+pub record SaidOf (values : List Float) (result : Said) : Type 0 where
+  pub result-is : result ≡ said (decisionOf values)
+
+abbrev pub NoSecondSaid : Type 0
+NoSecondSaid = (values : List Float) → NoSecond Said (SaidOf values)
+
+-- so of the very result that was returned:
+pub record SaidDemand (values : List Float) (result : Said) : Type 0 where
+  -- it is refused exactly as an answer in a room of twelve values is, and its area is that answer's
+  pub refusedBy : (k : ℕ) → (k ≡ 0 → ⊥) → (result .number ≡ k) ↔ RefusedBy k values enough
+  pub number : result .number ≡ answerTo values .number
+  pub area : result .area ≡ answerTo values .area
+  -- its kind is the pair's, by the answer's n and area
+  pub overlapping : (result .kind ≡ 2) ↔ ((answerTo values .n ≡ 0 → ⊥) × (isAbove (answerTo values .area) ≡ true))
+  pub touching : (result .kind ≡ 1) ↔ TouchesBy (answerTo values)
+  pub apart : ((result .number ≡ 0) × (result .kind ≡ 0)) ↔ ApartBy (answerTo values)
+  pub kinds : result .kind ≤ 2
+  -- beside a refusal's number there are zeros
+  pub zeros : (result .number ≡ 0 → ⊥) → (result .kind ≡ 0) × (result .area ≡ nought)
+
+abbrev pub SaidReturned : Type 0
+SaidReturned = (values : List Float) (result : Said) → SaidOf values result → SaidDemand values result
 
 -- whatever room is lent, if it is long enough, the answer is the one that is decided by
 abbrev pub AnyRoom : Type 0

@@ -11,9 +11,18 @@ pub struct Answer {
     pub neighbour: [bool; 3],
 }
 
-// What is decided of two triangles where no corners are asked for: refused with the number, a ring with its area, or apart.
+// What is decided of two triangles where no corners are asked for: refused with the number, overlapping with the area, touching, or apart.
 pub enum Decision {
     Refused(u32),
-    Ring(f64),
+    Overlapping(f64),
+    Touching,
     Apart,
+}
+
+// What is said of a decision: number 0, the pair's kind (0 apart, 1 touching, 2 overlapping) and its area; or a refusal's number with zeros.
+#[repr(C)]
+pub struct Said {
+    pub number: u32,
+    pub kind: u32,
+    pub area: f64,
 }

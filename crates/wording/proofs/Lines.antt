@@ -1,12 +1,13 @@
 -- The lines of lists and refusals: how long they are, and that their words and numbers, one behind the other, are the lines. Assumes nothing.
 use Prim.Native.Nat.{ℕ, _+_}
 use mathlib.Core.Path.{_≡_, refl, sym, ap, _∙_}
-use mathlib.Core.List.{_++_, append-assoc}
+use mathlib.Core.List.{List, _++_, append-assoc}
 use native.Mathlib.Omega.{arith}
 use lib.ListN.{length, length-append}
 use Rattle.text.specs.Decimal.{decimal}
 use Rattle.layout.specs.Verdict.{numberAt}
-use Rattle.listing.specs.Words.{testWord, trainWord, pairsWord, leaksWord, refusedWord, atWord, feed, firstLine, leakLine, refusedLine}
+use Rattle.listing.specs.Words.{testWord, trainWord, pairsWord, leaksWord, touchingWord, refusedWord, atWord, feed, countLine, firstLine, leakLine, closingLine, refusedLine}
+use Rattle.listing.proofs.Read.{count-length}
 use Rattle.wording.specs.Lines.{leakLineOf}
 
 pub line-length : (t r n : ℕ) → length (leakLineOf t r n) ≡ 20 + length (decimal t) + length (decimal r) + length (decimal n)
@@ -19,13 +20,15 @@ line-is t r n =
     ap (λ y. y ++ (pairsWord ++ decimal n) ++ feed) (sym (append-assoc (testWord ++ decimal t) trainWord (decimal r)))
     ∙ ap (λ y. y ++ feed) (sym (append-assoc (testWord ++ decimal t ++ trainWord ++ decimal r) pairsWord (decimal n)))
 
-pub first-length : (k : ℕ) → length (firstLine k) ≡ 7 + length (decimal k)
-unfolding firstLine
-first-length k = simp length-append (omega arith)
+pub count-is : (word : List ℕ) (k : ℕ) → (word ++ decimal k) ++ feed ≡ countLine word k
+unfolding countLine
+count-is word k = refl
 
-pub first-is : (k : ℕ) → (leaksWord ++ decimal k) ++ feed ≡ firstLine k
-unfolding firstLine
-first-is k = refl
+pub first-length : (k : ℕ) → length (firstLine k) ≡ 7 + length (decimal k)
+first-length k = let e = count-length leaksWord k in omega (arith, e)
+
+pub closing-length : (k : ℕ) → length (closingLine k) ≡ 10 + length (decimal k)
+closing-length k = let e = count-length touchingWord k in omega (arith, e)
 
 pub refused-length : (n p : ℕ) → length (refusedLine (numberAt n p)) ≡ 13 + length (decimal n) + length (decimal p)
 unfolding refusedLine

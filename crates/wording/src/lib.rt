@@ -5,7 +5,7 @@ ghost use lib.ListN.{length};
 ghost use Rattle.layout.specs.Verdict.{numberAt};
 ghost use Rattle.text.specs.Decimal.{decimal};
 ghost use Rattle.text.specs.Room.{Measured, Put};
-ghost use Rattle.listing.specs.Words.{firstLine, refusedLine};
+ghost use Rattle.listing.specs.Words.{countLine, firstLine, closingLine, refusedLine};
 ghost use Rattle.wording.specs.Lines.{leakLineOf};
 
 // A word and a number, for which there is room, from a place on; the place behind them.
@@ -50,6 +50,23 @@ pub fn put_line(room: &mut [u8], at: usize, test: u32, train: u32, n: u32) -> us
     put_line_in(room, at, test, train, n)
 }
 
+// A line of a word and a number, from a place on; the place behind it. Where it does not fit, nothing is put, and the place stays.
+fn put_count(room: &mut [u8], at: usize, word: &[u8], k: u32) -> usize
+    requires { ⌜ length (now word) ≤ 100 ⌝ }
+    ensures { λ r. ⌜ Put (now (room .entry)) at (countLine (now (word .entry)) k) (now (room .exit)) r ⌝ }
+{
+    let size = word.len() + text::width(k) + 1;
+    let most = room.len();
+    if most < size {
+        return at;
+    }
+    if most - size < at {
+        return at;
+    }
+    let p = put_field(room, at, word, k);
+    text::put_bytes(room, p, b"\n")
+}
+
 // The length of the first line of a list of k leaks.
 pub fn first_length(k: u32) -> usize
     ensures { λ r. ⌜ Measured (firstLine k) r × (r ≤ k + 8) ⌝ }
@@ -61,15 +78,24 @@ pub fn first_length(k: u32) -> usize
 pub fn put_first(room: &mut [u8], k: u32) -> usize
     ensures { λ r. ⌜ Put (now (room .entry)) 0 (firstLine k) (now (room .exit)) r ⌝ }
 {
-    let size = first_length(k);
-    if room.len() < size {
-        return 0;
-    }
-    let p = put_field(room, 0, b"leaks ", k);
-    text::put_bytes(room, p, b"\n")
+    put_count(room, 0, b"leaks ", k)
 }
 
-// The line that says how a file is refused, likewise.
+// The length of the last line of a list with k pairs of recordings that only touch.
+pub fn closing_length(k: u32) -> usize
+    ensures { λ r. ⌜ Measured (closingLine k) r × (r ≤ k + 11) ⌝ }
+{
+    10 + text::width(k)
+}
+
+// That line, from a place on; the place behind it. Where it does not fit, nothing is put, and the place stays.
+pub fn put_closing(room: &mut [u8], at: usize, k: u32) -> usize
+    ensures { λ r. ⌜ Put (now (room .entry)) at (closingLine k) (now (room .exit)) r ⌝ }
+{
+    put_count(room, at, b"touching ", k)
+}
+
+// The line that says how a file is refused, at the front of the room, and its length. Where it does not fit, nothing is put, and the length is 0.
 pub fn put_refusal(room: &mut [u8], number: u32, place: u32) -> usize
     ensures { λ r. ⌜ Put (now (room .entry)) 0 (refusedLine (numberAt number place)) (now (room .exit)) r ⌝ }
 {

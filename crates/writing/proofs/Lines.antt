@@ -11,9 +11,9 @@ use lib.ListN.{length, length-append}
 use Rattle.text.specs.Room.{Measured, Put}
 use Rattle.text.proofs.Room.{put-none, put-as, put-two}
 use Rattle.listing.specs.Turns.{each}
-use Rattle.listing.specs.Words.{firstLine, leakLine, leakLines}
+use Rattle.listing.specs.Words.{firstLine, leakLine, leakLines, closingLine, textOf}
 use Rattle.listing.proofs.Turns.{each-append, each-one}
-use Rattle.writing.specs.Triples.{leakAt, leaksIn, linesIn, textOf}
+use Rattle.writing.specs.Triples.{leakAt, leaksIn, linesIn}
 
 -- ---- triples and leaks
 pub how-many : (found : List ℕ) (k : ℕ) → length (leaksIn found k) ≡ k
@@ -26,12 +26,16 @@ unfolding leaksIn linesIn leakLines
 lines-are found zero = unfold each in refl
 lines-are found (suc k) = ap₂ _++_ (lines-are found k) (sym (each-one leakLine (leakAt found k))) ∙ sym (each-append leakLine (leaksIn found k) (leakAt found k ∷ []))
 
-pub text-is : (found : List ℕ) (k : ℕ) → firstLine k ++ linesIn found k ≡ textOf (leaksIn found k)
-text-is found k = ap₂ _++_ (ap firstLine (sym (how-many found k))) (lines-are found k)
+pub text-is : (found : List ℕ) (k t : ℕ) → firstLine k ++ linesIn found k ++ closingLine t ≡ textOf (leaksIn found k) t
+unfolding textOf
+text-is found k t = ap (λ front. front ++ closingLine t) (ap₂ _++_ (ap firstLine (sym (how-many found k))) (lines-are found k))
 
 -- the text is measured by the measures of its parts
-pub text-measured : (found : List ℕ) (k : ℕ) {a b : ℕ} → Measured (firstLine k) a → Measured (linesIn found k) b → Measured (textOf (leaksIn found k)) (a + b)
-text-measured found k p q = ap₂ _+_ p q ∙ (sym (length-append (firstLine k) (linesIn found k)) ∙ ap length (text-is found k))
+pub text-measured : (found : List ℕ) (k t : ℕ) {a b c : ℕ} → Measured (firstLine k) a → Measured (linesIn found k) b → Measured (closingLine t) c → Measured (textOf (leaksIn found k) t) (a + b + c)
+text-measured found k t p q r =
+    ap₂ _+_ (ap₂ _+_ p q) r
+    ∙ (ap (λ n. n + length (closingLine t)) (sym (length-append (firstLine k) (linesIn found k)))
+    ∙ (sym (length-append (firstLine k ++ linesIn found k) (closingLine t)) ∙ ap length (text-is found k t)))
 
 -- ---- one more line
 lines-suc : (l : List ℕ) (c : ℕ) → linesIn l (c + 1) ≡ linesIn l c ++ leakLine (leakAt l c)

@@ -11,10 +11,10 @@ use Rattle.text.specs.Room.{Put}
 use Rattle.text.proofs.Room.{whole-or-nothing}
 use Rattle.listing.specs.declared.Listed.{Listed}
 use Rattle.listing.specs.Leaks.{Leak}
-use Rattle.listing.specs.Words.{firstLine, leakLines}
-use Rattle.listing.specs.Listing.{noList, tooShort}
+use Rattle.listing.specs.Words.{firstLine, leakLines, closingLine, textOf}
+use Rattle.listing.specs.Listing.{noList, tooShort, listFrom}
 use Rattle.wording.proofs.Lines.{first-length}
-use Rattle.writing.specs.Triples.{lesser, heldIn, textOf, listFrom, WrittenAs, NoSecondWritten}
+use Rattle.writing.specs.Triples.{lesser, heldIn, WrittenAs, NoSecondWritten}
 
 -- ---- how many leaks there are numbers for
 lesser-all : (a b : ℕ) → a ≤ b → lesser a b ≡ a
@@ -43,37 +43,39 @@ held-all found k h f = lesser-all k (lesser (length found / 3) 4096) (lesser-of 
 
 -- ---- the list and the refusal
 -- no list is empty
-some : (ls : List Leak) → 0 < length (textOf ls)
-some ls =
+some : (ls : List Leak) (t : ℕ) → 0 < length (textOf ls t)
+unfolding textOf
+some ls t =
     let first = first-length (length ls) in
-    let all = length-append (firstLine (length ls)) (leakLines ls) in
-    omega (arith, first, all)
+    let front = length-append (firstLine (length ls)) (leakLines ls) in
+    let all = length-append (firstLine (length ls) ++ leakLines ls) (closingLine t) in
+    omega (arith, first, front, all)
 
-module _ (ls : List Leak) (room : List ℕ) {after : List ℕ} where
-  pub written-not : {r : Listed} {next : ℕ} → Put room 0 (textOf ls) after next → next ≡ 0 → r ≡ noList [] tooShort .result → WrittenAs ls room r after
+module _ (ls : List Leak) (t : ℕ) (room : List ℕ) {after : List ℕ} where
+  pub written-not : {r : Listed} {next : ℕ} → Put room 0 (textOf ls t) after next → next ≡ 0 → r ≡ noList [] tooShort .result → WrittenAs ls t room r after
   unfolding listFrom
-  written-not {r} {next} p z e = go (ltb (length room) (length (textOf ls))) refl
+  written-not {r} {next} p z e = go (ltb (length room) (length (textOf ls t))) refl
     where
-      go : (b : Bool) → ltb (length room) (length (textOf ls)) ≡ b → WrittenAs ls room r after
-      go true t = let h = ltb-true (length room) (length (textOf ls)) t in
-          record { result-is = e ∙ rw t refl; after-is = whole-or-nothing p .nothing (omega (arith, h)) .0 ∙ rw t refl }
-      go false t =
-          let h = ltb-false (length room) (length (textOf ls)) t in
+      go : (b : Bool) → ltb (length room) (length (textOf ls t)) ≡ b → WrittenAs ls t room r after
+      go true l = let h = ltb-true (length room) (length (textOf ls t)) l in
+          record { result-is = e ∙ rw l refl; after-is = whole-or-nothing p .nothing (omega (arith, h)) .0 ∙ rw l refl }
+      go false l =
+          let h = ltb-false (length room) (length (textOf ls t)) l in
           let behind = whole-or-nothing p .whole (omega (arith, h)) .1 in
-          let full = some ls in
+          let full = some ls t in
           absurd (omega (arith, behind, z, full))
 
-  pub written-all : {next count : ℕ} → Put room 0 (textOf ls) after next → (next ≡ 0 → ⊥) → count ≡ length ls → WrittenAs ls room (record { number = 0; place = 0; length = next; leaks = count }) after
+  pub written-all : {next count : ℕ} → Put room 0 (textOf ls t) after next → (next ≡ 0 → ⊥) → count ≡ length ls → WrittenAs ls t room (record { number = 0; place = 0; length = next; leaks = count; touching = t }) after
   unfolding listFrom
-  written-all {next} {count} p n e = go (ltb (length room) (length (textOf ls))) refl
+  written-all {next} {count} p n e = go (ltb (length room) (length (textOf ls t))) refl
     where
-      go : (b : Bool) → ltb (length room) (length (textOf ls)) ≡ b → WrittenAs ls room (record { number = 0; place = 0; length = next; leaks = count }) after
-      go true t = let h = ltb-true (length room) (length (textOf ls)) t in absurd (n (whole-or-nothing p .nothing (omega (arith, h)) .1))
-      go false t =
-          let h = ltb-false (length room) (length (textOf ls)) t in
+      go : (b : Bool) → ltb (length room) (length (textOf ls t)) ≡ b → WrittenAs ls t room (record { number = 0; place = 0; length = next; leaks = count; touching = t }) after
+      go true l = let h = ltb-true (length room) (length (textOf ls t)) l in absurd (n (whole-or-nothing p .nothing (omega (arith, h)) .1))
+      go false l =
+          let h = ltb-false (length room) (length (textOf ls t)) l in
           let behind = whole-or-nothing p .whole (omega (arith, h)) .1 in
-          let size : next ≡ length (textOf ls) = omega (arith, behind) in
-          record { result-is = rw (t, size, e) refl; after-is = p .after-is ∙ rw t refl }
+          let size : next ≡ length (textOf ls t) = omega (arith, behind) in
+          record { result-is = rw (l, size, e) refl; after-is = p .after-is ∙ rw l refl }
 
 pub no-second-written : NoSecondWritten
-no-second-written ls room r s a b p q = (p .result-is ∙ sym (q .result-is), p .after-is ∙ sym (q .after-is))
+no-second-written ls t room r s a b p q = (p .result-is ∙ sym (q .result-is), p .after-is ∙ sym (q .after-is))

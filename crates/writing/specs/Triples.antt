@@ -1,4 +1,4 @@
--- Leaks as triples of numbers, one behind the other, their lines, and the list of them in a room, or refusal 7. Definitions and a statement.
+-- Leaks as triples of numbers, one behind the other, their lines, and what is promised of writing their list. Definitions and a statement.
 use Prim.Native.Nat.{ℕ, zero, suc, _+_, _*_, _/_}
 use mathlib.Core.Path.{_≡_}
 use mathlib.Core.Bool.{cond}
@@ -7,8 +7,8 @@ use lib.Dec.{ltb}
 use lib.ListN.{length, getD}
 use Rattle.listing.specs.declared.Listed.{Listed}
 use Rattle.listing.specs.Leaks.{Leak}
-use Rattle.listing.specs.Words.{firstLine, leakLine, leakLines}
-use Rattle.listing.specs.Listing.{ListAndRoom, noList, tooShort, listIn}
+use Rattle.listing.specs.Words.{leakLine}
+use Rattle.listing.specs.Listing.{listFrom}
 
 -- triple k, from 0, as a leak: two ids and N
 abbrev pub leakAt : List ℕ → ℕ → Leak
@@ -32,19 +32,11 @@ lesser a b = cond (ltb a b) a b
 unfoldable pub heldIn : List ℕ → ℕ → ℕ
 heldIn found k = lesser k (lesser (length found / 3) 4096)
 
--- the list of these leaks: its first line and theirs
-abbrev pub textOf : List Leak → List ℕ
-textOf ls = firstLine (length ls) ++ leakLines ls
-
--- in the room, or refusal 7 where the room is shorter
-unfoldable pub listFrom : List Leak → List ℕ → ListAndRoom
-listFrom ls room = cond (ltb (length room) (length (textOf ls))) (noList room tooShort) (listIn room (textOf ls) (length ls))
-
--- what is promised of writing them: the result and the room afterwards
-pub record WrittenAs (ls : List Leak) (room : List ℕ) (result : Listed) (after : List ℕ) : Type 0 where
-  pub result-is : result ≡ listFrom ls room .result
-  pub after-is : after ≡ listFrom ls room .room
+-- what is promised of writing them, with so many pairs of recordings that only touch: the result and the room afterwards
+pub record WrittenAs (ls : List Leak) (touching : ℕ) (room : List ℕ) (result : Listed) (after : List ℕ) : Type 0 where
+  pub result-is : result ≡ listFrom ls touching room .result
+  pub after-is : after ≡ listFrom ls touching room .room
 
 -- no second result and no second room meets it
 abbrev pub NoSecondWritten : Type 0
-NoSecondWritten = (ls : List Leak) (room : List ℕ) (r s : Listed) (a b : List ℕ) → WrittenAs ls room r a → WrittenAs ls room s b → (r ≡ s) × (a ≡ b)
+NoSecondWritten = (ls : List Leak) (touching : ℕ) (room : List ℕ) (r s : Listed) (a b : List ℕ) → WrittenAs ls touching room r a → WrittenAs ls touching room s b → (r ≡ s) × (a ≡ b)

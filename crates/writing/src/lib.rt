@@ -5,8 +5,9 @@ ghost use Prim.Native.Nat.{_+_, _*_, _≤_};
 ghost use lib.ListN.{length};
 ghost use Rattle.layout.specs.Verdict.{numberAt};
 ghost use Rattle.text.specs.Room.{Measured, Put};
+ghost use Rattle.listing.specs.Words.{textOf};
 ghost use Rattle.listing.specs.Listing.{noList};
-ghost use Rattle.writing.specs.Triples.{leaksIn, linesIn, lesser as lesserOf, heldIn, textOf, WrittenAs};
+ghost use Rattle.writing.specs.Triples.{leaksIn, linesIn, lesser as lesserOf, heldIn, WrittenAs};
 
 // A refusal: its number and its place, with zeros.
 pub fn no_list(number: u32, place: u32) -> listing::Listed
@@ -17,6 +18,7 @@ pub fn no_list(number: u32, place: u32) -> listing::Listed
         place,
         length: 0,
         leaks: 0,
+        touching: 0,
     }
 }
 
@@ -60,27 +62,29 @@ fn put_lines(room: &mut [u8], at: usize, found: &[u32], k: usize) -> usize
     to
 }
 
-// The list of the first k leaks at the front of the room, and its length. Where it does not fit, nothing is put, and the length is 0.
-fn put_list(room: &mut [u8], found: &[u32], k: usize) -> usize
+// The list of the first k leaks, with so many pairs of recordings that only touch, at the front of the room, and its length. Where it does not fit, nothing is put, and the length is 0.
+fn put_list(room: &mut [u8], found: &[u32], k: usize, touching: u32) -> usize
     requires { ⌜ (k ≤ 4096) × (3 * k ≤ length (now found)) ⌝ }
-    ensures { λ r. ⌜ Put (now (room .entry)) 0 (textOf (leaksIn (now (found .entry)) k)) (now (room .exit)) r ⌝ }
+    ensures { λ r. ⌜ Put (now (room .entry)) 0 (textOf (leaksIn (now (found .entry)) k) touching) (now (room .exit)) r ⌝ }
 {
     let count = k as u32;
     let first = wording::first_length(count);
-    let size = first + lines_length(found, k);
+    let last = wording::closing_length(touching);
+    let size = first + lines_length(found, k) + last;
     if room.len() < size {
         return 0;
     }
     let p = wording::put_first(room, count);
-    put_lines(room, p, found, k)
+    let q = put_lines(room, p, found, k);
+    wording::put_closing(room, q, touching)
 }
 
-// The list of the first k leaks that were found, of as many as there are numbers for and 4,096 at most; or refusal 7 where the room is shorter than the list, and the room as it was.
-pub fn write(room: &mut [u8], found: &[u32], k: usize) -> listing::Listed
-    ensures { λ r. ⌜ WrittenAs (leaksIn (now (found .entry)) (heldIn (now (found .entry)) k)) (now (room .entry)) r (now (room .exit)) ⌝ }
+// The list of the leaks that were found, of as many as there are numbers for and 4,096 at most, and of the pairs of recordings that only touch; or refusal 7 where the room is shorter than the list, and the room as it was.
+pub fn write(room: &mut [u8], found: &[u32], c: listing::Counts) -> listing::Listed
+    ensures { λ r. ⌜ WrittenAs (leaksIn (now (found .entry)) (heldIn (now (found .entry)) (c .leaks))) (c .touching) (now (room .entry)) r (now (room .exit)) ⌝ }
 {
-    let n = lesser(k, lesser(found.len() / 3, 4096));
-    let size = put_list(room, found, n);
+    let n = lesser(c.leaks as usize, lesser(found.len() / 3, 4096));
+    let size = put_list(room, found, n, c.touching);
     // No list is empty, so nothing was put.
     if size == 0 {
         return no_list(7, 0);
@@ -90,5 +94,6 @@ pub fn write(room: &mut [u8], found: &[u32], k: usize) -> listing::Listed
         place: 0,
         length: size,
         leaks: n as u32,
+        touching: c.touching,
     }
 }

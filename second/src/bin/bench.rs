@@ -4,6 +4,7 @@
 use std::process::ExitCode;
 use std::time::Instant;
 
+use second::decision::decide;
 use second::footprint::{self, Entry, Verdict, MOST_BYTES};
 use second::leaks::{self, List};
 use second::library;
@@ -20,11 +21,11 @@ const ROUNDS_OF_LISTS: usize = 12;
 
 fn main() -> ExitCode {
     println!(
-        "{:<8} {:>6} {:>23} {:>23} {:>15}",
-        "", "meet", "library ns/pair", "second ns/pair", "library/second"
+        "{:<8} {:>7} {:>23} {:>23} {:>15}",
+        "", "overlap", "library ns/pair", "second ns/pair", "library/second"
     );
     println!(
-        "{:<8} {:>6} {:>23} {:>23} {:>15}",
+        "{:<8} {:>7} {:>23} {:>23} {:>15}",
         "pairs", "%", "least  median", "least  median", "least  median"
     );
     for name in NAMES {
@@ -102,23 +103,23 @@ fn list_of(file: &[u8], list: fn(&[u8], &mut [u8]) -> List) -> (List, Vec<u8>) {
 
 fn measure(name: &str, pairs: &[Values]) {
     let times = in_turn(ROUNDS, || time_library(pairs), || time_second(pairs));
-    let meeting = pairs.iter().filter(|values| triangles::intersect(*values, &mut [0.0; 12]).n > 0).count();
-    print_row(name, percent(meeting, pairs.len()), 1, times);
+    let overlapping = pairs.iter().filter(|values| decide(*values).overlaps()).count();
+    print_row(name, percent(overlapping, pairs.len()), 1, times);
 }
 
 fn measure_leaks(file: &[u8]) {
     let times =
         in_turn(ROUNDS_OF_LISTS, || time_listing(file, library::leaks), || time_listing(file, leaks::leaks));
     let list = leaks::whole_list(file).expect("the file is a good one");
-    let meeting: u32 = list.leaks.iter().map(|leak| leak.pairs).sum();
-    print_row(LEAKS, percent(meeting as usize, pairs_of_tracks(MOST_TRACKS)), 1, times);
+    let overlapping: u32 = list.leaks.iter().map(|leak| leak.pairs).sum();
+    print_row(LEAKS, percent(overlapping as usize, pairs_of_tracks(MOST_TRACKS)), 1, times);
 }
 
 fn measure_file(file: &[u8]) {
     let times =
         in_turn(ROUNDS, || time_judging(file, library::check), || time_judging(file, footprint::judge));
     println!(
-        "{:<8} {:>6} {:>23} {:>23} {:>15}",
+        "{:<8} {:>7} {:>23} {:>23} {:>15}",
         "", "bytes", "library ns/byte", "second ns/byte", "library/second"
     );
     print_row(FILE, file.len().to_string(), 3, times);
@@ -133,7 +134,7 @@ type Times = ((f64, f64), (f64, f64));
 
 fn print_row(name: &str, share: String, decimals: usize, (library, second): Times) {
     println!(
-        "{name:<8} {share:>6} {:>13.*} {:>9.*} {:>13.*} {:>9.*} {:>7.3} {:>7.3}",
+        "{name:<8} {share:>7} {:>13.*} {:>9.*} {:>13.*} {:>9.*} {:>7.3} {:>7.3}",
         decimals,
         library.0,
         decimals,

@@ -5,14 +5,15 @@ use std::io::{self, Write as _};
 use std::process::ExitCode;
 
 use second::case::Case;
-use second::classes::{draw, formulas, worked, CLASSES};
+use second::classes::{decisions, draw, formulas, worked, CLASSES};
 use second::coverage::Coverage;
+use second::decision::decide;
 use second::random::Random;
 use second::tally::Tally;
 use second::triangles::{intersect, intersect_traced};
 
 const SEED: u64 = 300;
-/// How many there are before those that tell formulas apart.
+/// How many there are before those that tell formulas and decisions apart.
 const CASES: usize = 320;
 /// How many cases of each class are taken as they come.
 const OF_EACH_CLASS: usize = 4;
@@ -39,7 +40,7 @@ fn main() -> ExitCode {
 }
 
 /// The worked cases, some of each class, then whatever is still rare, then any; last, those that tell
-/// formulas apart.
+/// formulas apart, and decisions.
 fn chosen() -> Vec<Case> {
     let mut random = Random::new(SEED);
     let mut tally = Tally::default();
@@ -63,6 +64,7 @@ fn chosen() -> Vec<Case> {
         }
     }
     cases.extend(formulas::in_turn());
+    cases.extend(decisions::in_turn());
     cases
 }
 
@@ -77,6 +79,7 @@ fn plain(mut case: Case) -> Case {
 fn coverage_of(case: &Case) -> Coverage {
     let mut coverage = Coverage::default();
     intersect_traced(&case.values, &mut room_for(case), &mut coverage);
+    coverage.decided(&case.values, decide(&case.values));
     coverage
 }
 
@@ -98,6 +101,8 @@ fn expected_line(case: &Case) -> String {
     for flag in [answer.u_in_v, answer.v_in_u, answer.neighbour].concat() {
         line.push(if flag { '1' } else { '0' });
     }
+    let decision = decide(&case.values);
+    line += &format!(" {} {} {:016x}", decision.number, decision.kind, decision.area.to_bits());
     append_values(&mut line, &room);
     line + "\n"
 }

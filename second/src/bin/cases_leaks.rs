@@ -7,7 +7,7 @@ use std::process::ExitCode;
 
 use second::files::worked::{all as all_files, EXAMPLE, SHORTEST};
 use second::leaks::leaks;
-use second::lists::worked::{all, EXAMPLE_LIST, NO_LEAKS};
+use second::lists::worked::{all, EXAMPLE_LIST, NOTHING};
 
 /// A file, and the length of the room for its list.
 struct Case {
@@ -47,10 +47,10 @@ fn chosen() -> Vec<Case> {
     let mut cases = Vec::new();
     let mut add = |file: &[u8], room_length: usize| cases.push(Case { room_length, file: file.to_vec() });
     (0..=EXAMPLE_LIST.len() + 2).for_each(|length| add(&EXAMPLE, length));
-    [0, 7, 9].into_iter().for_each(|length| add(&SHORTEST, length));
+    [0, 8, 18, 20].into_iter().for_each(|length| add(&SHORTEST, length));
     for worked in all().iter().filter(|worked| worked.file != EXAMPLE) {
         add(&worked.file, worked.list.len());
-        if worked.list != NO_LEAKS {
+        if worked.list != NOTHING {
             add(&worked.file, worked.list.len() - 1);
         }
     }
@@ -82,7 +82,10 @@ fn input_line(case: &Case) -> String {
 fn expected_line(case: &Case) -> String {
     let mut room = vec![UNWRITTEN; case.room_length];
     let list = leaks(&case.file, &mut room);
-    let mut line = format!("{:08x} {:08x} {:08x} {:08x} ", list.number, list.place, list.length, list.leaks);
+    let mut line = String::new();
+    for number in [list.number, list.place, list.length as u32, list.leaks, list.touching] {
+        write!(line, "{number:08x} ").expect("a string takes all that is written to it");
+    }
     append_bytes(&mut line, &room);
     line + "\n"
 }

@@ -5,11 +5,12 @@ use std::process::ExitCode;
 use second::case::Case;
 use second::classes::{draw, CLASSES};
 use second::coverage::Coverage;
+use second::decision::{decide, decision_of, Decision};
 use second::lent::{same_bits, Lent};
 use second::library::{self, Returned};
 use second::random::Random;
 use second::tally::{covered, Tally};
-use second::triangles::{intersect_traced, Answer};
+use second::triangles::{intersect_traced, Answer, ROOM};
 
 const SEED: u64 = 20_011_946;
 const PAIRS: u64 = 1_200_000;
@@ -64,26 +65,25 @@ fn arguments() -> Result<(u64, u64), String> {
 /// Both programs on copies of the case; the error is a report of everything that differs.
 fn compare(case: &Case, with_null: bool, coverage: &mut Coverage) -> Result<(), String> {
     let input = Lent::holding(&case.values);
-    let mut input_lent = Lent::holding(&case.values);
+    let mut input_lent = input.clone();
     let mut room_of_library = Lent::room(case.room_length);
-    let mut room_of_second = Lent::room(case.room_length);
+    let mut room_of_second = room_of_library.clone();
     let call = if with_null { library::intersect_with_null } else { library::intersect };
     let returned = call(input_lent.lend(), room_of_library.lend());
     let answer = intersect_traced(input.values(), room_of_second.lend(), coverage);
+    let call = if with_null { library::decide_with_null } else { library::decide };
+    let decided = call(input_lent.lend());
+    let decision = if case.room_length < ROOM { decide(input.values()) } else { decision_of(&answer) };
+    coverage.decided(input.values(), decision);
 
     let mut differences = differing_fields(&returned, &answer);
-    if !same_bits(room_of_library.values(), room_of_second.values()) {
-        differences.push("room");
-    }
-    if !same_bits(input_lent.values(), input.values()) {
-        differences.push("input written");
-    }
-    if !input_lent.same_guards(&input) {
-        differences.push("guards of the input");
-    }
-    if !room_of_library.same_guards(&room_of_second) {
-        differences.push("guards of the room");
-    }
+    differences.extend(differing_decisions(&decided, &decision));
+    differences.extend(named(&[
+        (same_bits(room_of_library.values(), room_of_second.values()), "room"),
+        (same_bits(input_lent.values(), input.values()), "input written"),
+        (input_lent.same_guards(&input), "guards of the input"),
+        (room_of_library.same_guards(&room_of_second), "guards of the room"),
+    ]));
     if differences.is_empty() {
         return Ok(());
     }
@@ -91,23 +91,32 @@ fn compare(case: &Case, with_null: bool, coverage: &mut Coverage) -> Result<(), 
     report += &format!("refusal of the second program: {:?}\n", coverage.refusal);
     report += &format!("library {returned:?}\n{}", values_text(room_of_library.values()));
     report += &format!("second  {answer:?}\n{}", values_text(room_of_second.values()));
+    report += &format!("library {decided:?}\nsecond  {decision:?}\n");
     Err(report)
 }
 
 fn differing_fields(returned: &Returned, answer: &Answer) -> Vec<&'static str> {
-    let mut differences = Vec::new();
-    let mut look = |same: bool, name: &'static str| {
-        if !same {
-            differences.push(name);
-        }
-    };
-    look(returned.number == answer.number, "number");
-    look(returned.n == answer.n, "n");
-    look(returned.area.to_bits() == answer.area.to_bits(), "area");
-    look(returned.u_in_v == answer.u_in_v.map(u8::from), "u_in_v");
-    look(returned.v_in_u == answer.v_in_u.map(u8::from), "v_in_u");
-    look(returned.neighbour == answer.neighbour.map(u8::from), "neighbour");
-    differences
+    named(&[
+        (returned.number == answer.number, "number"),
+        (returned.n == answer.n, "n"),
+        (returned.area.to_bits() == answer.area.to_bits(), "area"),
+        (returned.u_in_v == answer.u_in_v.map(u8::from), "u_in_v"),
+        (returned.v_in_u == answer.v_in_u.map(u8::from), "v_in_u"),
+        (returned.neighbour == answer.neighbour.map(u8::from), "neighbour"),
+    ])
+}
+
+fn differing_decisions(decided: &Decision, decision: &Decision) -> Vec<&'static str> {
+    named(&[
+        (decided.number == decision.number, "the decision's number"),
+        (decided.kind == decision.kind, "the decision's kind"),
+        (decided.area.to_bits() == decision.area.to_bits(), "the decision's area"),
+    ])
+}
+
+/// Those that are not the same.
+fn named(looked_at: &[(bool, &'static str)]) -> Vec<&'static str> {
+    looked_at.iter().filter(|(same, _)| !same).map(|(_, name)| *name).collect()
 }
 
 fn case_text(case: &Case) -> String {

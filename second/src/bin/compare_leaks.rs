@@ -93,7 +93,7 @@ fn compare_all(seed: u64, files: usize) -> Result<Tally, String> {
             0..=200 => 4,
             _ => 12,
         };
-        let rooms = rooms_for(coverage.length(), many, &mut random);
+        let rooms = rooms_for(coverage.text(), many, &mut random);
         memory.compare(&file, &whole, &rooms, &mut random).map_err(|report| {
             let name = &tally.rows[class].name;
             format!("difference at file {number} of seed {seed}, class '{name}'\n{report}")
@@ -113,8 +113,9 @@ fn compare_endless() -> Result<(), String> {
         return Err(format!("difference at a file of {} bytes\n{of_library:?}", file.len()));
     }
     // To 32 bits one byte too few for the list, but there are many more.
-    let (start, length) = endless_room(&unwritten(30));
-    let mut expected = [unwritten(30), vec![0; MOST_BYTES]].concat();
+    let front = unwritten(EXAMPLE_LIST.len() - 1);
+    let (start, length) = endless_room(&front);
+    let mut expected = [front, vec![0; MOST_BYTES]].concat();
     let of_second = written(&whole_list(&EXAMPLE), &mut expected);
     let of_library = unsafe { library::leaks_at(EXAMPLE.as_ptr(), EXAMPLE.len(), start, length) };
     // The library is done with the room, and nobody else knows of it.
@@ -131,12 +132,12 @@ fn compare_endless() -> Result<(), String> {
 /// What is known of its list beforehand is looked at as well.
 fn compare_large(large: &Large, memory: &mut Memory, random: &mut Random) -> Result<(), String> {
     let whole = whole_list(&large.file);
-    if !whole.as_ref().map_or(false, |whole| large.has(whole)) {
+    if !whole.as_ref().map_or(false, |whole| whole.text == large.list) {
         return Err("the second program has another list than is known".to_string());
     }
-    let mut rooms = vec![Room::of(large.length)];
+    let mut rooms = vec![Room::of(large.list.len())];
     if !large.slow {
-        rooms.push(Room::of(large.length - 1));
+        rooms.push(Room::of(large.list.len() - 1));
     }
     memory.compare(&large.file, &whole, &rooms, random)
 }

@@ -5,7 +5,7 @@ use crate::classes::touching;
 use crate::random::Random;
 use crate::triangles::numbers::Point;
 
-/// Whole centimetres within ±500,000, U shifted by up to 375,000 a direction: about half meet.
+/// Whole centimetres within ±500,000, U shifted by up to 375,000 a direction: about half overlap.
 pub fn whole_centimetres(random: &mut Random) -> Pair {
     let mut vertex =
         || point(f64::from(random.between(-500_000, 500_000)), f64::from(random.between(-500_000, 500_000)));

@@ -31,6 +31,25 @@ pub fn underflowing_parameters(random: &mut Random) -> Pair {
     })
 }
 
+/// Crosses are whole multiples of the smallest value above zero, and that of U is this value itself, of
+/// which half is zero. V is U, or U drawn larger, or any.
+pub fn smallest_areas(random: &mut Random) -> Pair {
+    let other = ordinary::small_grid(random);
+    let mut corner = || [random.between(-3, 3), random.between(-3, 3)];
+    let [a, b] = loop {
+        let [a, b] = [corner(), corner()];
+        if (a[0] * b[1] - a[1] * b[0]).abs() == 1 {
+            break [a, b];
+        }
+    };
+    let at = |part: [i32; 2], times: i32| point(f64::from(part[0] * times), f64::from(part[1] * times));
+    let times = random.pick(&[1, 1, 2, 3, -1]);
+    let u = [at([0, 0], 1), at(a, 1), at(b, 1)];
+    let v = if random.once_in(3) { other.v } else { [at([0, 0], 1), at(a, times), at(b, times)] };
+    let power = if random.once_in(2) { -537 } else { random.between(-900, -174) };
+    Pair { u, v }.shuffled(random).scaled(power, -1074 - power)
+}
+
 /// An ordinary pair at the sizes where coordinates, d, a parameter or a pair test underflow.
 pub fn scaled_down(random: &mut Random) -> Pair {
     let pair = ordinary::any(random);

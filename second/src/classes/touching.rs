@@ -64,6 +64,27 @@ pub fn collinear_edges(random: &mut Random) -> Pair {
     Pair { u: [one, two, third], v }
 }
 
+/// Whole centimetres on a slanting line: an edge of U and one of V have a stretch of it in common, and lie
+/// on either side. The shorter edge lies near zero, so that the positions of crossings at its ends keep
+/// what rounding does to them.
+pub fn part_of_an_edge(random: &mut Random) -> Pair {
+    let step = point(random.sign() * f64::from(random.between(1, 60)), f64::from(random.between(1, 60)));
+    let far = random.pick(&[10, 300, 15_000]);
+    let near = random.pick(&[3, 30, far]);
+    let along = |steps: i32| point(f64::from(steps) * step.x, f64::from(steps) * step.y);
+    let mut beside = |side: f64| loop {
+        let most = 60 * far;
+        let p = point(f64::from(random.between(-most, most)), f64::from(random.between(-most, most)));
+        if side * (step.x * p.y - step.y * p.x) > 0.0 {
+            return p;
+        }
+    };
+    let (left, right) = (beside(1.0), beside(-1.0));
+    let mut edge = |most: i32| [along(-random.between(0, most)), along(random.between(1, most))];
+    let (longer, shorter) = (edge(far), edge(near));
+    Pair { u: [longer[0], longer[1], left], v: [shorter[0], shorter[1], right] }
+}
+
 /// The same corners, or V drawn larger or smaller from one of them.
 pub fn identical(random: &mut Random) -> Pair {
     let v = triangle(random);

@@ -1,6 +1,7 @@
 //! The files and lists that are worked by hand.
 
-use super::{leaks, meets, List};
+use super::{leaks, Counts, List};
+use crate::decision::decide;
 use crate::files::worked::{all as all_files, EXAMPLE};
 use crate::footprint::stored::{TEST, TRAINING};
 use crate::lists::worked::{all, file_of, EXAMPLE_LIST, U_OF_D, V};
@@ -14,10 +15,12 @@ fn expect_list(file: &[u8], list: &str, room_length: usize) {
     let answer = leaks(file, &mut room);
     let written = if room_length < list.len() { 0 } else { list.len() };
     if written == 0 {
-        assert_eq!(answer, List { number: 7, place: 0, length: 0, leaks: 0 });
+        assert_eq!(answer, List { number: 7, place: 0, length: 0, leaks: 0, touching: 0 });
     } else {
-        let lines = list.lines().count() as u32 - 1;
-        assert_eq!(answer, List { number: 0, place: 0, length: list.len(), leaks: lines });
+        let leaks = list.lines().count() as u32 - 2;
+        let touching = list.lines().last().and_then(|line| line.strip_prefix("touching ")?.parse().ok());
+        let touching = touching.expect("the last line says how many touch");
+        assert_eq!(answer, List { number: 0, place: 0, length: list.len(), leaks, touching });
     }
     assert_eq!(String::from_utf8_lossy(&room[..written]), &list[..written]);
     assert!(room[written..].iter().all(|byte| *byte == UNTOUCHED));
@@ -27,7 +30,7 @@ fn expect_list(file: &[u8], list: &str, room_length: usize) {
 fn lists() {
     for worked in all() {
         let length = worked.list.len();
-        for room_length in [0, 1, 7, 8, 9, length - 1, length, length + 1, length + 100] {
+        for room_length in [0, 1, 8, 18, 19, 20, length - 11, length - 1, length, length + 1, length + 100] {
             expect_list(&worked.file, &worked.list, room_length);
         }
     }
@@ -36,8 +39,8 @@ fn lists() {
 #[test]
 fn every_room_for_the_example() {
     assert_eq!(file_of(&[(7, TRAINING, &[V]), (9, TEST, &[U_OF_D])]), EXAMPLE);
-    assert_eq!(EXAMPLE_LIST.len(), 31);
-    (0..40).for_each(|length| expect_list(&EXAMPLE, EXAMPLE_LIST, length));
+    assert_eq!(EXAMPLE_LIST.len(), 42);
+    (0..50).for_each(|length| expect_list(&EXAMPLE, EXAMPLE_LIST, length));
 }
 
 /// As many lines as there can be, each with two ids of ten digits.
@@ -52,7 +55,8 @@ fn all_lines() {
             list += &format!("test {} train {} pairs 1\n", ids[0], ids[1]);
         }
     }
-    assert_eq!(list.len(), 11 + 1024 * 41);
+    list += "touching 0\n";
+    assert_eq!(list.len(), 11 + 1024 * 41 + 11);
     [list.len() - 1, list.len(), 65_536].iter().for_each(|length| expect_list(&file, &list, *length));
 }
 
@@ -60,24 +64,31 @@ fn all_lines() {
 #[test]
 fn a_refused_file_answers_for_itself() {
     for worked in all_files().iter().filter(|worked| worked.number != 0) {
-        for length in [0, 7, 8, 100] {
+        for length in [0, 18, 19, 100] {
             let mut room = vec![UNTOUCHED; length];
-            let expected = List { number: worked.number, place: worked.place, length: 0, leaks: 0 };
+            let expected =
+                List { number: worked.number, place: worked.place, length: 0, leaks: 0, touching: 0 };
             assert_eq!(leaks(&worked.file, &mut room), expected);
             assert!(room.iter().all(|byte| *byte == UNTOUCHED));
         }
     }
 }
 
+/// It counts in N, and keeps two recordings from being counted as touching. No file has such a pair.
 #[test]
-fn a_refused_pair_counts_as_meeting() {
-    let apart = [10.0, 10.0, 11.0, 10.0, 10.0, 11.0, 0.0, 0.0, 4.0, 0.0, 0.0, 4.0];
-    assert!(!meets(&apart, &mut [0.0; 12]));
+fn a_refused_pair_overlaps() {
+    let touching = [0.0, 0.0, 4.0, 0.0, 0.0, -4.0, 0.0, 0.0, 4.0, 0.0, 0.0, 4.0];
+    let counts = Counts::default().with(decide(&touching));
+    assert_eq!(counts, Counts { overlapping: 0, touching: 1 });
+    assert!(counts.only_touch() && !counts.leak());
     // Refusals 2, 3, 4 and 5.
-    for (place, value) in [(7, f64::NAN), (11, 0.0), (8, 1e308), (5, 10.0)] {
-        let mut values = apart;
+    for (place, value) in [(7, f64::NAN), (11, 0.0), (8, 1e308), (5, 0.0)] {
+        let mut values = touching;
         values[place] = value;
-        assert!(meets(&values, &mut [0.0; 12]));
+        assert_ne!(decide(&values).number, 0);
+        let both = counts.with(decide(&values));
+        assert_eq!(both, Counts { overlapping: 1, touching: 1 });
+        assert!(both.leak() && !both.only_touch());
     }
 }
 

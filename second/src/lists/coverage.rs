@@ -2,10 +2,11 @@
 //! what it has covered.
 
 use super::of_set;
+use crate::decision::{decide, APART, OVERLAPPING, TOUCHING};
+use crate::exact::{common_to, contact_of, Common, Contact};
 use crate::footprint::stored::{triangle, Line, HELD_BACK, TEST, TRAINING, TRIANGLE};
 use crate::footprint::{lines_of, Refused};
-use crate::leaks::{meeting_pairs, Leak, Whole};
-use crate::triangles::intersect;
+use crate::leaks::{counts_of, Leak, Whole};
 
 /// Of a file with more triangles nothing is said about pairs of them.
 const MOST_TRIANGLES: usize = 60;
@@ -14,34 +15,63 @@ pub struct Coverage<'a> {
     whole: &'a Result<Whole, Refused>,
     /// The table of a good file.
     pub lines: Vec<Line>,
-    pub meetings: Meetings,
+    pub pairs: Pairs,
 }
 
-/// What there is among the pairs of recordings.
+/// What there is among the pairs of recordings and of their triangles.
 #[derive(Default)]
-pub struct Meetings {
-    /// A triangle pair whose ring has no area.
-    pub touching: bool,
-    /// A line that is there for such pairs only.
+pub struct Pairs {
+    /// Two recordings with triangle pairs of the one kind only.
+    pub overlapping_alone: bool,
     pub touching_alone: bool,
-    /// Another N, or another line, with U and V exchanged.
-    pub exchanged: bool,
-    /// Of two recordings with several triangles each, their first or their last ones meet alone.
-    pub first_alone: bool,
-    pub last_alone: bool,
-    /// A recording held back would leak if it were a test or a training one.
-    pub test_held_back: bool,
-    pub training_held_back: bool,
+    /// Two recordings with both, by which of them comes first.
+    pub overlapping_first: bool,
+    pub touching_first: bool,
+    /// Two recordings that only touch, in more than one triangle pair.
+    pub touching_often: bool,
+    /// Two recordings that overlap by rounding only.
+    pub overlapping_by_rounding: bool,
+    /// Another N or another K with U and V exchanged.
+    pub another_n: bool,
+    pub another_k: bool,
+    /// The only triangle pair with a ring is that of the first or of the last triangles of two
+    /// recordings with several each.
+    pub first_overlaps: bool,
+    pub last_overlaps: bool,
+    pub first_touches: bool,
+    pub last_touches: bool,
+    /// What touching triangles truly share.
+    pub whole_edge: bool,
+    pub part_of_an_edge: bool,
+    pub point: bool,
+    /// Triangles that truly touch, but by the rules are apart.
+    pub missed: bool,
+    pub held_back: HeldBack,
+}
+
+/// What a recording held back would do if it were a test or a training one.
+#[derive(Default)]
+pub struct HeldBack {
+    pub leaks_as_test: bool,
+    pub leaks_as_training: bool,
+    pub touches_as_test: bool,
+    pub touches_as_training: bool,
+}
+
+impl HeldBack {
+    pub fn touches(&self) -> bool {
+        self.touches_as_test || self.touches_as_training
+    }
 }
 
 impl<'a> Coverage<'a> {
     pub fn of(file: &[u8], whole: &'a Result<Whole, Refused>) -> Self {
         let lines = lines_of(file).unwrap_or_default();
-        let mut meetings = Meetings::default();
+        let mut pairs = Pairs::default();
         if lines.iter().map(|line| usize::from(line.count)).sum::<usize>() <= MOST_TRIANGLES {
-            meetings.look_at(file, &lines);
+            pairs.look_at(file, &lines);
         }
-        Coverage { whole, lines, meetings }
+        Coverage { whole, lines, pairs }
     }
 
     /// 0 if the file is accepted, whatever the room.
@@ -57,9 +87,17 @@ impl<'a> Coverage<'a> {
         self.whole.as_ref().map_or(&[], |whole| &whole.leaks)
     }
 
-    /// Bytes of the whole list; 0 of a refused file.
+    pub fn touching(&self) -> u32 {
+        self.whole.as_ref().map_or(0, |whole| whole.touching)
+    }
+
+    /// The whole list; nothing of a refused file.
+    pub fn text(&self) -> &str {
+        self.whole.as_ref().map_or("", |whole| &whole.text)
+    }
+
     pub fn length(&self) -> usize {
-        self.whole.as_ref().map_or(0, |whole| whole.text.len())
+        self.text().len()
     }
 
     pub fn recordings_of(&self, set: u8) -> usize {
@@ -72,42 +110,74 @@ impl<'a> Coverage<'a> {
     }
 }
 
-impl Meetings {
+impl Pairs {
     fn look_at(&mut self, file: &[u8], lines: &[Line]) {
         for test in of_set(lines, TEST) {
             for training in of_set(lines, TRAINING) {
-                self.look_at_pair(test.part(file), training.part(file));
+                self.look_at_recordings(test.part(file), training.part(file));
             }
         }
         for held_back in of_set(lines, HELD_BACK) {
             let part = held_back.part(file);
-            self.test_held_back |=
-                of_set(lines, TRAINING).any(|other| meeting_pairs(part, other.part(file)) > 0);
-            self.training_held_back |=
-                of_set(lines, TEST).any(|other| meeting_pairs(other.part(file), part) > 0);
+            for training in of_set(lines, TRAINING) {
+                let counts = counts_of(part, training.part(file));
+                self.held_back.leaks_as_test |= counts.leak();
+                self.held_back.touches_as_test |= counts.only_touch();
+            }
+            for test in of_set(lines, TEST) {
+                let counts = counts_of(test.part(file), part);
+                self.held_back.leaks_as_training |= counts.leak();
+                self.held_back.touches_as_training |= counts.only_touch();
+            }
         }
     }
 
-    fn look_at_pair(&mut self, test: &[u8], training: &[u8]) {
-        let mut meeting = Vec::new();
-        let mut touching = 0;
+    fn look_at_recordings(&mut self, test: &[u8], training: &[u8]) {
+        let mut rings = Vec::new();
+        let mut by_rounding = 0;
         for (i, u) in test.chunks_exact(TRIANGLE).enumerate() {
             for (j, v) in training.chunks_exact(TRIANGLE).enumerate() {
-                let values = [triangle(u), triangle(v)].concat();
-                let values: Vec<f64> = values.into_iter().map(f64::from).collect();
-                let answer = intersect(&values, &mut [0.0; 12]);
-                if answer.n > 0 {
-                    meeting.push([i, j]);
-                    touching += usize::from(answer.area == 0.0);
+                let (kind, truly_overlap) = self.look_at_triangles(triangle(u), triangle(v));
+                by_rounding += u32::from(kind == OVERLAPPING && !truly_overlap);
+                if kind != APART {
+                    rings.push(([i, j], kind));
                 }
             }
         }
-        self.touching |= touching > 0;
-        self.touching_alone |= touching > 0 && touching == meeting.len();
-        self.exchanged |= meeting_pairs(training, test) as usize != meeting.len();
+        let counts = counts_of(test, training);
+        self.overlapping_alone |= counts.leak() && counts.touching == 0;
+        self.touching_alone |= counts.only_touch();
+        if counts.leak() && counts.touching > 0 {
+            self.overlapping_first |= rings[0].1 == OVERLAPPING;
+            self.touching_first |= rings[0].1 == TOUCHING;
+        }
+        self.touching_often |= counts.only_touch() && counts.touching > 1;
+        self.overlapping_by_rounding |= counts.leak() && counts.overlapping == by_rounding;
+        let exchanged = counts_of(training, test);
+        self.another_n |= exchanged.overlapping != counts.overlapping;
+        self.another_k |= exchanged.only_touch() != counts.only_touch();
         let last = [test.len() / TRIANGLE - 1, training.len() / TRIANGLE - 1];
-        let several = last[0] > 0 && last[1] > 0;
-        self.first_alone |= several && meeting == [[0, 0]];
-        self.last_alone |= several && meeting == [last];
+        if last[0] > 0 && last[1] > 0 {
+            self.first_overlaps |= rings == [([0, 0], OVERLAPPING)];
+            self.last_overlaps |= rings == [(last, OVERLAPPING)];
+            self.first_touches |= rings == [([0, 0], TOUCHING)];
+            self.last_touches |= rings == [(last, TOUCHING)];
+        }
+    }
+
+    /// The kind of two triangles of a good file, and whether they truly share an area.
+    fn look_at_triangles(&mut self, u: [i32; 6], v: [i32; 6]) -> (u32, bool) {
+        let mut values = [0.0; 12];
+        values[..6].copy_from_slice(&u.map(f64::from));
+        values[6..].copy_from_slice(&v.map(f64::from));
+        let (kind, common) = (decide(&values).kind, common_to(&values));
+        self.missed |= kind == APART && common == Some(Common::Contact);
+        if kind == TOUCHING {
+            let contact = contact_of(&values);
+            self.whole_edge |= contact == Some(Contact::WholeEdge);
+            self.part_of_an_edge |= contact == Some(Contact::PartOfAnEdge);
+            self.point |= contact == Some(Contact::Point);
+        }
+        (kind, common == Some(Common::Area))
     }
 }

@@ -1,40 +1,57 @@
 //! What a wrong program could do unseen unless a list, or a room lent for it, brings it about.
 
 use super::coverage::Coverage;
-use super::rooms::Room;
+use super::rooms::{before_last_line, Room};
 use crate::footprint::stored::{HELD_BACK, TEST, TRAINING};
 use crate::footprint::MOST_BYTES;
 
 pub type Event = (&'static str, fn(&Coverage) -> bool);
 
 /// Looked at in good files only.
-pub const LISTS: [Event; 13] = [
-    ("no lines", |c| c.leaks().is_empty()),
-    ("1 line", |c| c.leaks().len() == 1),
-    ("2 lines", |c| c.leaks().len() == 2),
-    ("3 to 9 lines", |c| (3..10).contains(&c.leaks().len())),
-    ("10 to 99 lines", |c| (10..100).contains(&c.leaks().len())),
-    ("100 lines or more", |c| c.leaks().len() >= 100),
-    ("31 to 99 bytes", |c| (31..100).contains(&c.length())),
+pub const LISTS: [Event; 21] = [
+    ("no leak lines", |c| c.leaks().is_empty()),
+    ("1 leak line", |c| c.leaks().len() == 1),
+    ("2 leak lines", |c| c.leaks().len() == 2),
+    ("3 to 9 leak lines", |c| (3..10).contains(&c.leaks().len())),
+    ("10 to 99 leak lines", |c| (10..100).contains(&c.leaks().len())),
+    ("100 leak lines or more", |c| c.leaks().len() >= 100),
+    ("42 to 99 bytes", |c| (42..100).contains(&c.length())),
     ("100 to 999 bytes", |c| (100..1_000).contains(&c.length())),
     ("1,000 bytes or more", |c| c.length() >= 1_000),
     ("N of 1 digit", |c| has_pairs(c, 1, 9)),
     ("N of 2 digits", |c| has_pairs(c, 10, 99)),
     ("N of 3 digits", |c| has_pairs(c, 100, 999)),
     ("N from 256 on", |c| has_pairs(c, 256, u32::MAX)),
+    ("touching 0", |c| c.touching() == 0),
+    ("touching 1", |c| c.touching() == 1),
+    ("touching 2 to 9", |c| (2..10).contains(&c.touching())),
+    ("touching 10 to 99", |c| (10..100).contains(&c.touching())),
+    ("touching 100 or more", |c| c.touching() >= 100),
+    ("neither leak lines nor touching ones", nothing),
+    ("touching ones and no leak lines", touching_alone),
+    ("touching ones and leak lines", |c| !c.leaks().is_empty() && c.touching() > 0),
 ];
 
-pub const RECORDINGS: [Event; 18] = [
+pub const RECORDINGS: [Event; 27] = [
     ("none", |c| c.lines.is_empty()),
     ("test ones alone", |c| only(c, TEST)),
     ("training ones alone", |c| only(c, TRAINING)),
     ("held back ones alone", |c| only(c, HELD_BACK)),
     ("64 of them", |c| c.lines.len() == 64),
-    ("all tests and trainings meet, several of each", all_meet),
+    ("all tests and trainings overlap, several of each", |c| all_pairs(c, c.leaks().len())),
+    ("all tests and trainings touch, several of each", |c| all_pairs(c, c.touching() as usize)),
     ("no line for some between two that have one", has_gap),
+    ("two with overlapping triangle pairs only", |c| c.pairs.overlapping_alone),
+    ("two with touching triangle pairs only", |c| c.pairs.touching_alone),
+    ("two with both, an overlapping pair first", |c| c.pairs.overlapping_first),
+    ("two with both, a touching pair first", |c| c.pairs.touching_first),
+    ("two with several touching triangle pairs only", |c| c.pairs.touching_often),
     ("held back beside leaks", |c| c.recordings_of(HELD_BACK) > 0 && !c.leaks().is_empty()),
-    ("held back that would leak as test", |c| c.meetings.test_held_back),
-    ("held back that would leak as training", |c| c.meetings.training_held_back),
+    ("held back that would leak as test", |c| c.pairs.held_back.leaks_as_test),
+    ("held back that would leak as training", |c| c.pairs.held_back.leaks_as_training),
+    ("held back that would only touch as test", |c| c.pairs.held_back.touches_as_test),
+    ("held back that would only touch as training", |c| c.pairs.held_back.touches_as_training),
+    ("held back that would touch, and touching 0", |c| c.touching() == 0 && c.pairs.held_back.touches()),
     ("test before training", |c| c.leaks().iter().any(|l| c.place_of(l.test) < c.place_of(l.training))),
     ("training before test", |c| c.leaks().iter().any(|l| c.place_of(l.test) > c.place_of(l.training))),
     ("test ids that do not ascend", |c| c.leaks().windows(2).any(|two| two[0].test > two[1].test)),
@@ -47,35 +64,53 @@ pub const RECORDINGS: [Event; 18] = [
     ("id of 2^31 or more as training", |c| c.leaks().iter().any(|leak| leak.training >= 1 << 31)),
 ];
 
-pub const TRIANGLES: [Event; 5] = [
-    ("a pair that touches", |c| c.meetings.touching),
-    ("a line by touching alone", |c| c.meetings.touching_alone),
-    ("another list with U and V exchanged", |c| c.meetings.exchanged),
-    ("the first of several meet alone", |c| c.meetings.first_alone),
-    ("the last of several meet alone", |c| c.meetings.last_alone),
+pub const TRIANGLES: [Event; 11] = [
+    ("touching in a whole edge", |c| c.pairs.whole_edge),
+    ("touching in a part of an edge", |c| c.pairs.part_of_an_edge),
+    ("touching in a point", |c| c.pairs.point),
+    ("apart, but truly touching", |c| c.pairs.missed),
+    ("a line by rounding, of an area truly zero", |c| c.pairs.overlapping_by_rounding),
+    ("another N with U and V exchanged", |c| c.pairs.another_n),
+    ("another K with U and V exchanged", |c| c.pairs.another_k),
+    ("the first of several overlap alone", |c| c.pairs.first_overlaps),
+    ("the last of several overlap alone", |c| c.pairs.last_overlaps),
+    ("the first of several touch alone", |c| c.pairs.first_touches),
+    ("the last of several touch alone", |c| c.pairs.last_touches),
 ];
 
 /// Of a list and a room lent for it.
 pub type Lent = (&'static str, fn(&Coverage, Room) -> bool);
 
-pub const ROOMS: [Lent; 17] = [
+/// Bytes of the shortest first line and of the shortest list.
+const FIRST_LINE: usize = 8;
+const SHORTEST: usize = 19;
+
+pub const ROOMS: [Lent; 21] = [
     ("7, NULL", |c, room| c.accepted() && room.null),
     ("7, empty, not NULL", |c, room| c.accepted() && room.length == 0 && !room.null),
-    ("7, 1 to 7 bytes", |c, room| c.accepted() && (1..8).contains(&room.length)),
-    ("7, the first line fits", |c, room| too_short(c, room) && room.length >= 8),
+    ("7, 1 to 7 bytes", |c, room| c.accepted() && (1..FIRST_LINE).contains(&room.length)),
+    ("7, the first line fits", |c, room| too_short(c, room) && room.length >= FIRST_LINE),
+    ("7, all but the last line fit", |c, room| c.accepted() && room.length == before_last_line(c.text())),
+    ("7, and a part of the last line", |c, room| {
+        too_short(c, room) && room.length > before_last_line(c.text())
+    }),
     ("7, two bytes short", |c, room| c.accepted() && room.length + 2 == c.length()),
     ("7, one byte short", |c, room| c.accepted() && room.length + 1 == c.length()),
-    ("7, one byte short of no leaks", |c, room| c.length() == 8 && room.length == 7),
+    ("7, one byte short of touching ones alone", |c, room| {
+        touching_alone(c) && room.length + 1 == c.length()
+    }),
+    ("7, one byte short of nothing", |c, room| nothing(c) && room.length + 1 == SHORTEST),
     ("as long as the list", |c, room| c.accepted() && room.length == c.length()),
-    ("as long as no leaks", |c, room| c.length() == 8 && room.length == 8),
+    ("as long as touching ones alone", |c, room| touching_alone(c) && room.length == c.length()),
+    ("as long as nothing", |c, room| nothing(c) && room.length == SHORTEST),
     ("one byte longer", |c, room| c.accepted() && room.length == c.length() + 1),
     ("two bytes longer", |c, room| c.accepted() && room.length == c.length() + 2),
     ("longer", |c, room| c.accepted() && room.length > c.length() + 2),
     ("65,536 bytes", |c, room| c.accepted() && room.length == MOST_BYTES),
     ("refused file, NULL", |c, room| !c.accepted() && room.null),
     ("refused file, empty, not NULL", |c, room| !c.accepted() && room.length == 0 && !room.null),
-    ("refused file, 1 to 7 bytes", |c, room| !c.accepted() && (1..8).contains(&room.length)),
-    ("refused file, 8 bytes or more", |c, room| !c.accepted() && room.length >= 8),
+    ("refused file, 1 to 18 bytes", |c, room| !c.accepted() && (1..SHORTEST).contains(&room.length)),
+    ("refused file, 19 bytes or more", |c, room| !c.accepted() && room.length >= SHORTEST),
 ];
 
 fn has_pairs(c: &Coverage, least: u32, most: u32) -> bool {
@@ -90,9 +125,10 @@ fn only(c: &Coverage, set: u8) -> bool {
     !c.lines.is_empty() && c.recordings_of(set) == c.lines.len()
 }
 
-fn all_meet(c: &Coverage) -> bool {
+/// Whether so many are all the pairs of test and training recordings.
+fn all_pairs(c: &Coverage, count: usize) -> bool {
     let (tests, trainings) = (c.recordings_of(TEST), c.recordings_of(TRAINING));
-    tests > 1 && trainings > 1 && c.leaks().len() == tests * trainings
+    tests > 1 && trainings > 1 && count == tests * trainings
 }
 
 /// Two neighbouring lines of one test recording leave a training recording out.
@@ -102,6 +138,14 @@ fn has_gap(c: &Coverage) -> bool {
     c.leaks().windows(2).any(|two| {
         two[0].test == two[1].test && left_out(c.place_of(two[0].training), c.place_of(two[1].training))
     })
+}
+
+fn nothing(c: &Coverage) -> bool {
+    c.accepted() && c.leaks().is_empty() && c.touching() == 0
+}
+
+fn touching_alone(c: &Coverage) -> bool {
+    c.leaks().is_empty() && c.touching() > 0
 }
 
 fn too_short(c: &Coverage, room: Room) -> bool {

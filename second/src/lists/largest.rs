@@ -1,19 +1,16 @@
 //! The largest files, whose lists are known without any program.
 
+use super::recordings::Part;
 use super::scenes::around;
+use super::worked::NOTHING;
 use crate::files::draft::{Draft, Triangle};
 use crate::files::good::most_triangles;
 use crate::footprint::stored::{HELD_BACK, TEST, TRAINING};
-use crate::leaks::Whole;
 
 pub struct Large {
     pub name: &'static str,
     pub file: Vec<u8>,
-    /// Lines of the list but the first.
-    pub lines: usize,
-    /// Bytes of the whole list.
-    pub length: usize,
-    pub last_line: &'static str,
+    pub list: String,
     /// Whether a call takes so long that one will have to do.
     pub slow: bool,
 }
@@ -21,10 +18,12 @@ pub struct Large {
 pub fn all() -> Vec<Large> {
     let one = most_triangles(1) as u16;
     let of_one = |set: u8| Draft::of(&[7], &[one], &[set], inner(one.into())).bytes();
-    let nothing = |name, file| Large { name, file, lines: 0, length: 8, last_line: "leaks 0", slow: false };
+    let nothing = |name, file| Large { name, file, list: NOTHING.to_string(), slow: false };
     vec![
         one_pair_of_recordings(),
         all_lines(),
+        all_touching(),
+        lines_and_touching(),
         nothing("64 recordings held back", held_back()),
         nothing("2,729 triangles of one test recording", of_one(TEST)),
         nothing("2,729 triangles of one training recording", of_one(TRAINING)),
@@ -47,52 +46,105 @@ fn one_pair_of_recordings() -> Large {
     let triangles = [outer(1_365), inner(1_364)].concat();
     let ids = [u32::MAX, u32::MAX - 1];
     Large {
-        name: "1,364 x 1,365 triangles that all meet",
+        name: "1,364 x 1,365 triangles that all overlap",
         file: Draft::of(&ids, &counts, &[TRAINING, TEST], triangles).bytes(),
-        lines: 1,
-        length: 8 + 47,
-        last_line: "test 4294967294 train 4294967295 pairs 1861860",
+        list: "leaks 1\ntest 4294967294 train 4294967295 pairs 1861860\ntouching 0\n".to_string(),
         slow: true,
     }
 }
 
-/// Every test recording with every training one; ids of ten digits, and N from 100 to 132.
-fn all_lines() -> Large {
-    let (mut ids, mut counts, mut sets, mut triangles) = (Vec::new(), Vec::new(), Vec::new(), Vec::new());
-    for k in 0..32u16 {
-        let of_both = [10 + k % 3, 10 + k % 2];
-        triangles.extend(inner(of_both[0].into()));
-        triangles.extend(outer(of_both[1].into()));
-        counts.extend(of_both);
-        sets.extend([TEST, TRAINING]);
-        ids.extend([u32::MAX - 77 * u32::from(k), u32::MAX - 1_000_000 * u32::from(k + 1)]);
+/// Ids of ten digits.
+fn test_id(k: usize) -> u32 {
+    u32::MAX - 77 * k as u32
+}
+
+fn training_id(k: usize) -> u32 {
+    u32::MAX - 1_000_000 * (k as u32 + 1)
+}
+
+/// 32 test and 32 training recordings by turns.
+fn by_turns(tests: impl Fn(usize) -> Part, trainings: impl Fn(usize) -> Part) -> Vec<u8> {
+    let parts: Vec<Part> = (0..32).flat_map(|k| [tests(k), trainings(k)]).collect();
+    let ids: Vec<u32> = (0..32).flat_map(|k| [test_id(k), training_id(k)]).collect();
+    let counts: Vec<u16> = parts.iter().map(|part| part.len() as u16).collect();
+    Draft::of(&ids, &counts, &[TEST, TRAINING].repeat(32), parts.concat()).bytes()
+}
+
+/// The list of such a file, from the number of overlapping pairs of every two recordings.
+fn list_of(pairs: impl Fn(usize, usize) -> usize, touching: usize) -> String {
+    let (mut count, mut lines) = (0, String::new());
+    for test in 0..32 {
+        for training in (0..32).filter(|training| pairs(test, *training) > 0) {
+            let (ids, pairs) = ([test_id(test), training_id(training)], pairs(test, training));
+            lines += &format!("test {} train {} pairs {pairs}\n", ids[0], ids[1]);
+            count += 1;
+        }
     }
+    format!("leaks {count}\n{lines}touching {touching}\n")
+}
+
+/// Every test recording with every training one; N from 100 to 132.
+fn all_lines() -> Large {
+    let (of_test, of_training) = (|k: usize| 10 + k % 3, |k: usize| 10 + k % 2);
     Large {
-        name: "32 x 32 recordings that all meet",
-        file: Draft::of(&ids, &counts, &sets, triangles).bytes(),
-        lines: 1_024,
-        length: 11 + 1_024 * 43,
-        last_line: "test 4294964908 train 4262967295 pairs 121",
+        name: "32 x 32 recordings that all overlap",
+        file: by_turns(|k| inner(of_test(k)), |k| outer(of_training(k))),
+        list: list_of(|test, training| of_test(test) * of_training(training), 0),
         slow: false,
     }
 }
 
-/// As many triangles as fit, all of which would meet.
+/// An edge on the axis from −100 or less to 100 or more, and the third corner on one side of it. Every
+/// two of different sides share that stretch and nothing else. All numbers are so small that no sign and no
+/// pair test is rounded, and no corner is rounded off the axis: where both ends of an edge have a y of zero,
+/// so has all that lies between them.
+fn beside_the_axis(side: i32, k: usize) -> Triangle {
+    let k = k as i32;
+    [-100 - k, 0, 100 + 7 * k, 0, 13 * k - 200, side * (50 + k)]
+}
+
+/// Every test recording with every training one, in one to six triangle pairs.
+fn all_touching() -> Large {
+    let part = |side: i32, k: usize, count: usize| (k..k + count).map(|k| beside_the_axis(side, k)).collect();
+    Large {
+        name: "32 x 32 recordings that all touch",
+        file: by_turns(|k| part(1, k, 1 + k % 2), |k| part(-1, k, 1 + k % 3)),
+        list: "leaks 0\ntouching 1024\n".to_string(),
+        slow: false,
+    }
+}
+
+/// The same, and far from the axis every other test recording has a triangle within one of every third
+/// training recording, at its beginning or at its end.
+fn lines_and_touching() -> Large {
+    let far = |triangle: Triangle| triangle.map(|value| value + 50_000);
+    let with = |more: bool, triangle: Triangle, part: Triangle, k: usize| match (more, k % 4 < 2) {
+        (false, _) => vec![part],
+        (true, true) => vec![triangle, part],
+        (true, false) => vec![part, triangle],
+    };
+    let (of_test, of_training) = (|k: usize| k % 2 == 0, |k: usize| k % 3 == 0);
+    let tests = |k: usize| with(of_test(k), far(inner(1)[0]), beside_the_axis(1, k), k);
+    let trainings = |k: usize| with(of_training(k), far(outer(1)[0]), beside_the_axis(-1, k), k);
+    let overlapping = 16 * 11;
+    Large {
+        name: "32 x 32 recordings of which some overlap and the others touch",
+        file: by_turns(tests, trainings),
+        list: list_of(
+            |test, training| usize::from(of_test(test) && of_training(training)),
+            32 * 32 - overlapping,
+        ),
+        slow: false,
+    }
+}
+
+/// As many triangles as fit, all of which would overlap.
 fn held_back() -> Vec<u8> {
     let ids: Vec<u32> = (0..64).collect();
     let mut counts = [42; 64];
     counts[63] += most_triangles(64) as u16 - 64 * 42;
     let triangles = outer(most_triangles(64));
     Draft::of(&ids, &counts, &[HELD_BACK; 64], triangles).bytes()
-}
-
-impl Large {
-    /// Whether this is what is known of its list.
-    pub fn has(&self, whole: &Whole) -> bool {
-        whole.leaks.len() == self.lines
-            && whole.text.len() == self.length
-            && whole.text.lines().last() == Some(self.last_line)
-    }
 }
 
 #[cfg(test)]
@@ -105,16 +157,16 @@ mod tests {
     fn they_are_good_and_large() {
         for large in all() {
             assert_eq!(judge(&large.file).number, 0, "{}", large.name);
-            let all_lines = large.lines == 1_024;
-            assert!(large.file.len() > if all_lines { 16_000 } else { 65_500 }, "{}", large.name);
+            let most_recordings = large.name.starts_with("32 x 32");
+            assert!(large.file.len() > if most_recordings { 2_700 } else { 65_500 }, "{}", large.name);
         }
     }
 
     #[test]
     fn lists_are_as_known() {
         for large in all().iter().filter(|large| !large.slow) {
-            let list = whole_list(&large.file).expect("a good file");
-            assert!(large.has(&list), "{}", large.name);
+            let whole = whole_list(&large.file).expect("a good file");
+            assert_eq!(whole.text, large.list, "{}", large.name);
         }
     }
 }

@@ -23,16 +23,24 @@ pub fn unwritten(length: usize) -> Vec<u8> {
     (0..length).map(|k| 128 + (k % 127) as u8).collect()
 }
 
+/// Where the closing line of a list begins; 0 where there is no list.
+pub fn before_last_line(list: &str) -> usize {
+    list.trim_end().rfind('\n').map_or(0, |end| end + 1)
+}
+
 /// One byte too few for the list, and as many as it has; then once in `many` each of these: two too
-/// few, one and two more, NULL, as many as any list can need, any, and half of those from none to ten.
-/// Of a refused file, which is soon done with, the list's length is 0, and none of these is halved.
-pub fn rooms_for(list: usize, many: usize, random: &mut Random) -> Vec<Room> {
-    let mut others = vec![list.saturating_sub(2), list + 1, list + 2, MOST_BYTES];
-    others.extend((0..=10).filter(|_| list == 0 || random.once_in(2)));
-    others.push(random.below(list + 1));
-    others.push(list + random.below(2_000));
+/// few, all but its last line, one and two more, NULL, as many as any list can need, any, and half of
+/// those from none to twenty-one. Of a refused file, which is soon done with, there is no list, and none
+/// of these is halved.
+pub fn rooms_for(list: &str, many: usize, random: &mut Random) -> Vec<Room> {
+    let length = list.len();
+    let mut others =
+        vec![length.saturating_sub(2), before_last_line(list), length + 1, length + 2, MOST_BYTES];
+    others.extend((0..=21).filter(|_| list.is_empty() || random.once_in(2)));
+    others.push(random.below(length + 1));
+    others.push(length + random.below(2_000));
     others.retain(|_| random.once_in(many));
-    let mut lengths = [vec![list.saturating_sub(1), list], others].concat();
+    let mut lengths = [vec![length.saturating_sub(1), length], others].concat();
     lengths.sort_unstable();
     lengths.dedup();
     let mut rooms: Vec<Room> = lengths.into_iter().map(Room::of).collect();

@@ -1,4 +1,4 @@
-//! Recordings whose triangles meet, touch or miss one another more often than by chance.
+//! Recordings whose triangles overlap, touch or miss one another more often than by chance.
 
 use super::recordings::{file_of, placed, sets, Part};
 use crate::classes::{touching, worked as cases};
@@ -11,6 +11,9 @@ use crate::random::Random;
 fn worked_pairs() -> Vec<[Triangle; 2]> {
     cases::in_turn().iter().take(8).map(|case| both(&case.values)).collect()
 }
+
+/// F, by its place among them.
+const TOUCHING_CASE: usize = 5;
 
 fn both(values: &[f64]) -> [Triangle; 2] {
     [0, 6].map(|from| {
@@ -35,6 +38,15 @@ pub fn touching(random: &mut Random) -> Vec<u8> {
         }
     }
     of_pairs(&pairs, random)
+}
+
+/// One pair, at the very place where rounding does most to it.
+pub fn part_of_an_edge(random: &mut Random) -> Vec<u8> {
+    let [test, training] = both(&touching::part_of_an_edge(random).shuffled(random).values());
+    let mut recordings = [(TEST, vec![test]), (TRAINING, vec![training])];
+    random.shuffle(&mut recordings);
+    let (sets, parts): (Vec<u8>, Vec<Part>) = recordings.into_iter().unzip();
+    file_of(&parts, &sets, random)
 }
 
 /// U's in test recordings and V's in training ones, one or two of each; at times some are held
@@ -83,19 +95,20 @@ pub fn one_set(random: &mut Random) -> Vec<u8> {
     file_of(&parts, &vec![set; recordings], random)
 }
 
-/// Two recordings with their triangles in two rows far apart; one of each row is replaced, and those
-/// two meet.
+/// Two recordings with their triangles in two rows far apart; the first, the last or any one of each row is
+/// replaced, and those two overlap or touch.
 pub fn one_pair(random: &mut Random) -> Vec<u8> {
-    let meeting: Vec<[Triangle; 2]> = [0, 1, 2, 3, 5, 6, 7].map(|case| worked_pairs()[case]).to_vec();
-    let pair = random.pick(&meeting);
+    let case = if random.once_in(2) { random.pick(&[0, 1, 2, 3, 6, 7]) } else { TOUCHING_CASE };
+    let pair = worked_pairs()[case];
     let mut row = |y: i32| -> Part {
         let count = 2 + random.below(4) as i32;
         (1..=count).map(|k| [20 * k, y, 20 * k + 9, y, 20 * k, y + 9]).collect()
     };
     let (mut tests, mut trainings) = (row(20), row(-30));
+    let which = random.below(3);
     for (part, triangle) in [(&mut tests, pair[0]), (&mut trainings, pair[1])] {
         let (last, some) = (part.len() - 1, random.below(part.len()));
-        part[random.pick(&[0, last, some])] = triangle;
+        part[[0, last, some][which]] = triangle;
     }
     two_recordings(tests, trainings, random)
 }

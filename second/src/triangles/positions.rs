@@ -60,6 +60,12 @@ fn component(p: f64, q: f64, t: f64) -> Option<f64> {
 }
 
 pub fn area_of(corners: &[Point]) -> Option<f64> {
+    let sum = area_sum(corners)?;
+    Some(if sum < 0.0 { -sum * 0.5 } else { sum * 0.5 })
+}
+
+/// What the area is half of, or half of its negation.
+pub fn area_sum(corners: &[Point]) -> Option<f64> {
     let mut sum = 0.0;
     if let Some((&first, others)) = corners.split_first() {
         for pair in others.windows(2) {
@@ -68,5 +74,5 @@ pub fn area_of(corners: &[Point]) -> Option<f64> {
             sum = finite(sum + cross(near, far)?)?;
         }
     }
-    Some(if sum < 0.0 { -sum * 0.5 } else { sum * 0.5 })
+    Some(sum)
 }

@@ -1,4 +1,4 @@
--- All triangles are prepared, all leaks gathered, and their list is written.
+-- All triangles are prepared, all is gathered, and the list of it is written.
 use Prim.Native.Nat.{_-_}
 use borrow.Author.Needs.{needs}
 use denote.Ref.{now}

@@ -1,12 +1,11 @@
--- Only a training recording is counted, and what is counted is N.
+-- Only with a training recording is anything found, and what is found is by what is counted.
 use Prim.Native.Nat.{_+_, _-_}
 use borrow.Author.Needs.{needs}
 use denote.Ref.{now}
-use mathlib.Core.List.{_++_}
-use mathlib.Core.Path.{ap, _∙_}
+use mathlib.Core.Path.{refl, ap, _∙_}
 use native.Mathlib.Omega.{arith}
-use Rattle.leaklist.proofs.Gathered.{entry-is, no-item, an-item, with-nothing, tally-fits, count-by}
-use Rattle.writing.specs.Triples.{leaksIn}
+use Rattle.leaklist.proofs.Gathered.{entry-is, no-item, an-item, pair-added, with-nothing, tally-fits, count-by}
+use Rattle.leaklist.specs.Code.{foundIn, together}
 use Rattle.leaklist.proofs.found.add_pair.Statement.{statement}
 use Rattle.leaklist.proofs.found.add_pair.Tie as tie
 
@@ -20,9 +19,10 @@ entry-at-requires : tie.Need-entry-at-requires
 entry-at-requires c κs = search needs
 
 returns : tie.Need-returns
-returns c = let g = c .before .before .before .before .before .before .args in
-    let p = c .before .before .before .before .before .before .pre in
-    (with-nothing (no-item (now (g .file)) (g .i) (g .j) (entry-is (now (g .file)) (g .j) (g .at) (p .3) (c .before .before .entry-at .ensures .0)) (c .if1 .taken)), omega arith)
+returns c = let b = c .before .before in
+    let g = b .before .before .before .before .args in
+    let p = b .before .before .before .before .pre in
+    (with-nothing (foundIn (now (g .found)) (g .c)) (no-item (now (g .file)) (g .i) (g .j) (entry-is (now (g .file)) (g .j) (g .at) (p .3) (b .entry-at .ensures .0)) (c .if1 .taken)), omega arith, omega arith)
 
 cast-tally : tie.Need-cast-tally
 cast-tally c = search needs
@@ -37,9 +37,16 @@ cast-tally-4 : tie.Need-cast-tally-4
 cast-tally-4 c = search needs
 
 tally-requires : tie.Need-tally-requires
-tally-requires c κs = let g = c .before .before .before .before .before .before .before .before .before .before .args in
-    let p = c .before .before .before .before .before .before .before .before .before .before .pre in
-    tally-fits (now (g .file)) (now (g .table)) (p .0) (g .i) (g .j) (p .1) (p .4) (p .2) (entry-is (now (g .file)) (g .j) (g .at) (p .3) (c .before .before .before .before .before .before .entry-at .ensures .0))
+tally-requires c κs = let b = c .before .before .before .before .before .before in
+    let g = b .before .before .before .before .args in
+    let p = b .before .before .before .before .pre in
+    tally-fits (now (g .file)) (now (g .table)) (p .0) (g .i) (g .j) (p .1) (p .4) (p .2) (entry-is (now (g .file)) (g .j) (g .at) (p .3) (b .entry-at .ensures .0))
+
+touching-in-requires : tie.Need-touching-in-requires
+touching-in-requires c κs = search needs
+
+add-touching : tie.Need-add-touching
+add-touching c = search needs
 
 add-requires : tie.Need-add-requires
 add-requires c κs = search needs
@@ -48,11 +55,19 @@ same-length : tie.Need-same-length
 same-length c = search needs
 
 returns-2 : tie.Need-returns-2
-returns-2 c = let g = c .before .before .before .before .before .before .before .before .before .before .before .before .before .before .before .args in
-    let p = c .before .before .before .before .before .before .before .before .before .before .before .before .before .before .before .pre in
-    let a = c .before .before .add .ensures in
-    let f = entry-is (now (g .file)) (g .j) (g .at) (p .3) (c .before .before .before .before .before .before .before .before .before .before .before .entry-at .ensures .0) in
-    (a .0 ∙ ap (λ x. leaksIn (now (g .found)) (g .k) ++ x) (an-item (now (g .file)) (g .i) (g .j) (p .2) f (c .before .before .before .before .before .before .before .before .before .if1 .left) (count-by (now (g .file)) (now (g .table)) (p .0) (g .i) (g .j) (p .1) (p .4) (p .2) f (c .before .before .before .before .tally .ensures))), a .1)
+returns-2 c = let added = c .before .before .add .ensures in
+    let more = c .before .before .before .before .before in
+    let t = more .before in
+    let read = t .before .before .before .before .before .before .before in
+    let g = read .before .before .before .before .args in
+    let p = read .before .before .before .before .pre in
+    let f = entry-is (now (g .file)) (g .j) (g .at) (p .3) (read .entry-at .ensures .0) in
+    let one = more .touching-in .ensures in (
+      pair-added (foundIn (now (g .found)) (g .c)) (g .e .id) (read .entry-at .result .id) (t .tally .result) (added .0) (one .0) refl
+          ∙ ap (together (foundIn (now (g .found)) (g .c))) (an-item (now (g .file)) (g .i) (g .j) (p .2) f (t .before .before .before .before .before .if1 .left) (count-by (now (g .file)) (now (g .table)) (p .0) (g .i) (g .j) (p .1) (p .4) (p .2) f (t .tally .ensures))),
+      added .1,
+      omega (arith, one .1),
+    )
 
 pub add-pair-spec : {M : Type 1} → statement M
 add-pair-spec =
@@ -67,6 +82,8 @@ add-pair-spec =
     cast-tally-3
     cast-tally-4
     tally-requires
+    touching-in-requires
+    add-touching
     add-requires
     same-length
     returns-2)

@@ -1,31 +1,31 @@
--- Each turn adds the leak of one more recording, if there is one.
+-- Each turn adds what is found with one more recording.
 use Prim.Native.Nat.{_≤_, _+_, _-_}
 use borrow.Author.Needs.{needs}
 use denote.Ref.{now}
 use lib.ListN.{length}
-use mathlib.Core.List.{_++_}
 use mathlib.Core.Path.{_≡_, sym, ap, _∙_}
 use native.Mathlib.Omega.{arith}
 use Rattle.leaklist.proofs.Gathered.{row-none, row-turn}
-use Rattle.writing.specs.Triples.{leaksIn}
-use Rattle.leaklist.specs.Code.{rowTo}
+use Rattle.leaklist.specs.Code.{foundIn, together, rowTo}
 use Rattle.leaklist.proofs.found.add_row.Statement.{statement}
 use Rattle.leaklist.proofs.found.add_row.Tie as tie
 
 abbrev Inv-loop : tie.InvT-loop
-Inv-loop file table found₀ k i e at count to₀ j₀ found to j = (j ≤ count) × (length found ≡ 12288) × (leaksIn found to ≡ leaksIn found₀ k ++ rowTo file i j) × (to ≤ k + j)
+Inv-loop file table found₀ i e at count to₀ j₀ found to j = (j ≤ count) × (length found ≡ 12288) × (foundIn found to ≡ together (foundIn found₀ to₀) (rowTo file i j)) × (to .leaks ≤ to₀ .leaks + j) × (to .touching ≤ to₀ .touching + j)
 
 abbrev μ-loop : tie.MeasureT-loop
-μ-loop file table found₀ k i e at count to₀ j₀ found to j = count - j
+μ-loop file table found₀ i e at count to₀ j₀ found to j = count - j
 
 loop-holds : tie.Need-loop-holds Inv-loop μ-loop
 loop-holds c = let g = c .before .before .before .args in
-    (omega arith, c .before .before .before .pre .6, row-none (now (g .file)) (g .i) (leaksIn (now (g .found)) (g .k)), omega arith)
+    (omega arith, c .before .before .before .pre .7, row-none (now (g .file)) (g .i) (foundIn (now (g .found)) (g .c)), omega arith, omega arith)
 
 add-pair-requires : tie.Need-add-pair-requires Inv-loop μ-loop
 add-pair-requires c κs = let p = c .before .before .before .before .before .before .pre in
     let l = c .before .before .loop in
-    (p .0, p .1, p .2, p .3, omega (arith, c .before .loop-test .taken, p .4), omega (arith, c .before .loop-test .taken, l .inv .3, p .4, p .5, p .0 .good .atMost64), l .inv .1)
+    let h = c .before .loop-test .taken in
+    let most = p .0 .good .atMost64 in
+    (p .0, p .1, p .2, p .3, omega (arith, h, p .4), omega (arith, h, l .inv .3, p .4, p .5, most), omega (arith, h, l .inv .4, p .4, p .6, most), l .inv .1)
 
 add-j : tie.Need-add-j Inv-loop μ-loop
 add-j c = search needs
@@ -34,20 +34,21 @@ loop-less : tie.Need-loop-less Inv-loop μ-loop
 loop-less c = search needs
 
 loop-again : tie.Need-loop-again Inv-loop μ-loop
-loop-again c = let g = c .before .before .before .before .before .before .before .before .before .args in
-    let l = c .before .before .before .before .before .loop in
+loop-again c = let l = c .before .before .before .before .before .loop in
+    let g = c .before .before .before .before .before .before .before .before .before .args in
     let a = c .before .before .add-pair .ensures in
-    (omega (arith, c .before .before .before .before .loop-test .taken), search needs, row-turn (now (g .file)) (g .i) (l .j) (leaksIn (now (g .found)) (g .k)) (l .inv .2) (a .0), omega (arith, a .1, l .inv .3))
+    (omega (arith, c .before .before .before .before .loop-test .taken), search needs, row-turn (now (g .file)) (g .i) (l .j) (foundIn (now (g .found)) (g .c)) (l .inv .2) (a .0), omega (arith, a .1, l .inv .3), omega (arith, a .2, l .inv .4))
 
 same-length : tie.Need-same-length Inv-loop μ-loop
-same-length c = let l = c .before .loop in l .inv .1 ∙ sym (c .before .before .before .before .before .pre .6)
+same-length c = let l = c .before .loop in l .inv .1 ∙ sym (c .before .before .before .before .before .pre .7)
 
 returns : tie.Need-returns Inv-loop μ-loop
 returns c = let g = c .before .before .before .before .before .args in
     let p = c .before .before .before .before .before .pre in
     let l = c .before .loop in
     let e : l .j ≡ g .count = omega (arith, l .inv .0, c .loop-test .left) in
-    (l .inv .2 ∙ ap (λ n. leaksIn (now (g .found)) (g .k) ++ rowTo (now (g .file)) (g .i) n) (e ∙ p .4), omega (arith, l .inv .3, e, p .4, p .0 .good .atMost64))
+    let most = p .0 .good .atMost64 in
+    (l .inv .2 ∙ ap (λ n. together (foundIn (now (g .found)) (g .c)) (rowTo (now (g .file)) (g .i) n)) (e ∙ p .4), omega (arith, l .inv .3, e, p .4, most), omega (arith, l .inv .4, e, p .4, most))
 
 pub add-row-spec : {M : Type 1} → statement M
 add-row-spec =

@@ -4,7 +4,7 @@ use borrow.Author.Needs.{needs}
 use denote.Ref.{now}
 use native.Mathlib.Omega.{arith}
 use Rattle.leaklist.proofs.Gathered.{entry-is, with-nothing, no-test, a-test}
-use Rattle.writing.specs.Triples.{leaksIn}
+use Rattle.leaklist.specs.Code.{foundIn}
 use Rattle.leaklist.proofs.found.add_test.Statement.{statement}
 use Rattle.leaklist.proofs.found.add_test.Tie as tie
 
@@ -20,12 +20,12 @@ entry-at-requires c κs = search needs
 returns : tie.Need-returns
 returns c = let g = c .before .before .before .before .before .before .args in
     let p = c .before .before .before .before .before .before .pre in
-    (with-nothing (no-test (now (g .file)) (g .i) (entry-is (now (g .file)) (g .i) (g .at) (p .2) (c .before .before .entry-at .ensures .0)) (c .if1 .taken)), omega arith)
+    (with-nothing (foundIn (now (g .found)) (g .c)) (no-test (now (g .file)) (g .i) (entry-is (now (g .file)) (g .i) (g .at) (p .2) (c .before .before .entry-at .ensures .0)) (c .if1 .taken)), omega arith, omega arith)
 
 add-row-requires : tie.Need-add-row-requires
 add-row-requires c κs = let g = c .before .before .before .before .before .before .before .args in
     let p = c .before .before .before .before .before .before .before .pre in
-    (p .0, p .1, entry-is (now (g .file)) (g .i) (g .at) (p .2) (c .before .before .before .entry-at .ensures .0), p .2, p .3, p .4, p .5)
+    (p .0, p .1, entry-is (now (g .file)) (g .i) (g .at) (p .2) (c .before .before .before .entry-at .ensures .0), p .2, p .3, p .4, p .5, p .6)
 
 same-length : tie.Need-same-length
 same-length c = search needs
@@ -34,7 +34,7 @@ returns-2 : tie.Need-returns-2
 returns-2 c = let g = c .before .before .before .before .before .before .before .before .before .before .args in
     let p = c .before .before .before .before .before .before .before .before .before .before .pre in
     let a = c .before .before .add-row .ensures in
-    (a-test (now (g .file)) (g .i) (leaksIn (now (g .found)) (g .k)) (entry-is (now (g .file)) (g .i) (g .at) (p .2) (c .before .before .before .before .before .before .entry-at .ensures .0)) (c .before .before .before .before .if1 .left) (a .0), a .1)
+    (a-test (now (g .file)) (g .i) (foundIn (now (g .found)) (g .c)) (entry-is (now (g .file)) (g .i) (g .at) (p .2) (c .before .before .before .before .before .before .entry-at .ensures .0)) (c .before .before .before .before .if1 .left) (a .0), a .1, a .2)
 
 pub add-test-spec : {M : Type 1} → statement M
 add-test-spec =

@@ -1,4 +1,4 @@
--- Each turn adds the leaks of one more recording.
+-- Each turn adds what is found of one more recording.
 use Prim.Native.Nat.{_≤_, _-_, _*_}
 use borrow.Author.Needs.{needs}
 use denote.Ref.{now}
@@ -6,24 +6,23 @@ use lib.ListN.{length}
 use mathlib.Core.Path.{_≡_, sym, ap, _∙_}
 use native.Mathlib.Omega.{arith}
 use Rattle.leaklist.proofs.Gathered.{list-none, list-turn}
-use Rattle.writing.specs.Triples.{leaksIn}
-use Rattle.leaklist.specs.Code.{listTo}
+use Rattle.leaklist.specs.Code.{foundIn, listTo}
 use Rattle.leaklist.proofs.found.gather.Statement.{statement}
 use Rattle.leaklist.proofs.found.gather.Tie as tie
 
 abbrev Inv-loop : tie.InvT-loop
-Inv-loop file table found₀ at count k₀ i₀ found k i = (i ≤ count) × (length found ≡ 12288) × (leaksIn found k ≡ listTo file i) × (k ≤ 64 * i)
+Inv-loop file table found₀ at count c₀ i₀ found c i = (i ≤ count) × (length found ≡ 12288) × (foundIn found c ≡ listTo file i) × (c .leaks ≤ 64 * i) × (c .touching ≤ 64 * i)
 
 abbrev μ-loop : tie.MeasureT-loop
-μ-loop file table found₀ at count k₀ i₀ found k i = count - i
+μ-loop file table found₀ at count c₀ i₀ found c i = count - i
 
 loop-holds : tie.Need-loop-holds Inv-loop μ-loop
-loop-holds c = let g = c .before .before .before .args in (omega arith, c .before .before .before .pre .3, list-none (now (g .file)) (now (g .found)), omega arith)
+loop-holds c = let g = c .before .before .before .args in (omega arith, c .before .before .before .pre .3, list-none (now (g .file)) (now (g .found)), omega arith, omega arith)
 
 add-test-requires : tie.Need-add-test-requires Inv-loop μ-loop
 add-test-requires c κs = let p = c .before .before .before .before .before .before .pre in
     let l = c .before .before .loop in
-    (p .0, omega (arith, c .before .loop-test .taken, p .2), p .1, p .2, omega (arith, c .before .loop-test .taken, l .inv .3, p .2, p .0 .good .atMost64), l .inv .1)
+    (p .0, omega (arith, c .before .loop-test .taken, p .2), p .1, p .2, omega (arith, c .before .loop-test .taken, l .inv .3, p .2, p .0 .good .atMost64), omega (arith, c .before .loop-test .taken, l .inv .4, p .2, p .0 .good .atMost64), l .inv .1)
 
 add-i : tie.Need-add-i Inv-loop μ-loop
 add-i c = search needs
@@ -35,7 +34,7 @@ loop-again : tie.Need-loop-again Inv-loop μ-loop
 loop-again c = let g = c .before .before .before .before .before .before .before .before .before .args in
     let l = c .before .before .before .before .before .loop in
     let a = c .before .before .add-test .ensures in
-    (omega (arith, c .before .before .before .before .loop-test .taken), search needs, list-turn (now (g .file)) (l .i) (l .inv .2) (a .0), omega (arith, a .1, l .inv .3))
+    (omega (arith, c .before .before .before .before .loop-test .taken), search needs, list-turn (now (g .file)) (l .i) (l .inv .2) (a .0), omega (arith, a .1, l .inv .3), omega (arith, a .2, l .inv .4))
 
 same-length : tie.Need-same-length Inv-loop μ-loop
 same-length c = let l = c .before .loop in l .inv .1 ∙ sym (c .before .before .before .before .before .pre .3)

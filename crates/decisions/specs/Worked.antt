@@ -1,0 +1,91 @@
+-- 02, No. 1, worked by hand: what is said of 01's cases A to L, of lists of other lengths, of areas at the lower end of all floats, and of two pairs in which rounding speaks against exact numbers. Definitions and statements.
+use mathlib.Core.Path.{_≡_}
+use mathlib.Core.List.{List, [], _∷_, _++_, map}
+use Prim.Native.Nat.{ℕ, _^_}
+use lib.IntN.{ℤ, pos, negsuc}
+use lib.Ieee.{Float, nan, binary64, ofInt, ofBits}
+use Rattle.triangles.specs.declared.Said.{Said}
+use Rattle.triangles.specs.Decision.{said, decisionOf}
+
+-- values, and what is said of them
+pub record Case : Type 0 where
+  pub values : List Float
+  pub says : Said
+
+pub record Shown (c : Case) : Type 0 where
+  pub number : said (decisionOf (c .values)) .number ≡ c .says .number
+  pub kind : said (decisionOf (c .values)) .kind ≡ c .says .kind
+  pub area : said (decisionOf (c .values)) .area ≡ c .says .area
+
+-- a triangle in whole numbers: `pos k` is k, `negsuc k` is −(k + 1)
+abbrev triangle : ℤ → ℤ → ℤ → ℤ → ℤ → ℤ → List Float
+triangle a b c d e f = map (ofInt binary64) (a ∷ b ∷ c ∷ d ∷ e ∷ f ∷ [])
+
+abbrev zero : Float
+zero = ofBits binary64 0
+
+-- the four ways
+abbrev refused : ℕ → List Float → Case
+refused k l = record { values = l; says = record { number = k; kind = 0; area = zero } }
+
+abbrev apart : List Float → Case
+apart l = record { values = l; says = record { number = 0; kind = 0; area = zero } }
+
+abbrev touching : List Float → Case
+touching l = record { values = l; says = record { number = 0; kind = 1; area = zero } }
+
+-- with the area's bits
+abbrev overlapping : List Float → ℕ → Case
+overlapping l bits = record { values = l; says = record { number = 0; kind = 2; area = ofBits binary64 bits } }
+
+-- V unless given, U of A, V of C, and a triangle on one line
+abbrev v : List Float
+v = triangle (pos 0) (pos 0) (pos 4) (pos 0) (pos 0) (pos 4)
+
+abbrev u : List Float
+u = triangle (pos 1) (pos 1) (pos 2) (pos 1) (pos 1) (pos 2)
+
+abbrev large : List Float
+large = triangle (pos 0) (pos 0) (pos 8) (pos 0) (pos 0) (pos 8)
+
+abbrev flat : List Float
+flat = triangle (pos 0) (pos 0) (pos 1) (pos 1) (pos 2) (pos 2)
+
+-- (0,0),(a,0),(0,b), as U and as V
+abbrev twice : Float → Float → List Float
+twice a b = zero ∷ zero ∷ a ∷ zero ∷ zero ∷ b ∷ zero ∷ zero ∷ a ∷ zero ∷ zero ∷ b ∷ []
+
+-- 2^−537 and 2^−536
+abbrev tiny : Float
+tiny = ofBits binary64 0x1e60_0000_0000_0000
+
+abbrev doubled : Float
+doubled = ofBits binary64 0x1e70_0000_0000_0000
+
+abbrev pub cases : List Case
+cases =
+    -- A to H
+    overlapping (u ++ v) 0x3fe0_0000_0000_0000
+    ∷ overlapping (large ++ u) 0x3fe0_0000_0000_0000
+    ∷ overlapping (triangle (pos 6) (pos 6) (negsuc 1) (pos 6) (pos 6) (negsuc 1) ++ large) 0x4034_0000_0000_0000
+    ∷ overlapping (triangle (pos 1) (pos 1) (negsuc 2) (pos 1) (pos 1) (negsuc 2) ++ v) 0x3ff0_0000_0000_0000
+    ∷ apart (triangle (pos 10) (pos 10) (pos 11) (pos 10) (pos 10) (pos 11) ++ v)
+    ∷ touching (triangle (pos 0) (pos 0) (pos 4) (pos 0) (pos 0) (negsuc 3) ++ v)
+    ∷ overlapping (triangle (negsuc 2) (pos 5) (pos 5) (negsuc 2) (pos 9) (pos 9) ++ v) 0x4018_0000_0000_0000
+    ∷ overlapping (u ++ triangle (pos 0) (pos 0) (pos 0) (pos 4) (pos 4) (pos 0)) 0x3fe0_0000_0000_0000
+    -- I to L, K with the NaN in its last place
+    ∷ refused 3 (u ++ flat)
+    ∷ refused 5 (flat ++ v)
+    ∷ refused 2 (u ++ (zero ∷ zero ∷ zero ∷ zero ∷ zero ∷ nan ∷ []))
+    ∷ refused 4 (u ++ triangle (pos 0) (pos 0) (pos (10 ^ 300)) (pos 0) (pos 0) (pos (10 ^ 300)))
+    -- lengths
+    ∷ refused 1 []
+    ∷ refused 1 (u ++ (zero ∷ v))
+    -- the sum 2^−1074 has a half of 0.0, and 2^−1073 one of 2^−1074
+    ∷ touching (twice tiny tiny)
+    ∷ overlapping (twice doubled tiny) 1
+    -- V's edge from V2 to V0 lies on U's from U1 to U2, and no more is shared; computed, the area is 2^−30
+    ∷ overlapping (triangle (pos 458) (negsuc 957) (negsuc 13746) (negsuc 4523) (negsuc 1188) (negsuc 974) ++ triangle (negsuc 6478) (negsuc 2469) (negsuc 804) (negsuc 155) (negsuc 12826) (negsuc 4263)) 0x3e10_0000_0000_0000
+    -- V2 lies on U's edge from U2 to U0; computed, there is no ring
+    ∷ apart (triangle (pos 0) (negsuc 0) (negsuc 0) (pos 0) (pos 0) (pos 3) ++ triangle (pos 4) (pos 1) (pos 2) (negsuc 0) (pos 0) (pos 1))
+    ∷ []
