@@ -32,11 +32,11 @@ pub no-second-said : NoSecondSaid
 no-second-said values r s p q = p .result-is ∙ sym (q .result-is)
 
 -- ---- what there is of an answer: refused, with zeros; no ring, and area 0.0; a ring, and an area above zero or 0.0
-data Found (a : Answer) : Type 0 where
-  refusedAs : (a .number ≡ 0 → ⊥) → a .n ≡ 0 → a .area ≡ nought → Found a
-  ringless : a .number ≡ 0 → a .n ≡ 0 → a .area ≡ nought → Found a
-  withArea : a .number ≡ 0 → (a .n ≡ 0 → ⊥) → isAbove (a .area) ≡ true → Found a
-  without : a .number ≡ 0 → (a .n ≡ 0 → ⊥) → a .area ≡ nought → Found a
+data AnswerIs (a : Answer) : Type 0 where
+  refusedOne : (a .number ≡ 0 → ⊥) → a .n ≡ 0 → a .area ≡ nought → AnswerIs a
+  ringless : a .number ≡ 0 → a .n ≡ 0 → a .area ≡ nought → AnswerIs a
+  areaAbove : a .number ≡ 0 → (a .n ≡ 0 → ⊥) → isAbove (a .area) ≡ true → AnswerIs a
+  areaNought : a .number ≡ 0 → (a .n ≡ 0 → ⊥) → a .area ≡ nought → AnswerIs a
 
 not-nought : isAbove nought ≡ false
 unfolding lt ofBits
@@ -66,8 +66,8 @@ module _ (a : Answer) where
   not-overlapping z (inl n) (inr k) = k .0 n
   not-overlapping z (inr e) (inr k) = false≢true (sym (ap isAbove e ∙ not-nought) ∙ k .1)
 
-  kind-by : Found a → KindBy a (decided a)
-  kind-by (refusedAs h n e) = rw (of-refused h) (record {
+  kind-by : AnswerIs a → KindBy a (decided a)
+  kind-by (refusedOne h n e) = rw (of-refused h) (record {
     overlapping = (λ p. inl h, λ p. refl);
     touching = (λ p. absurd (false≢true p), λ p. absurd (h (p .0)));
     apart = (λ p. absurd (false≢true p), λ p. absurd (h (p .0)));
@@ -79,13 +79,13 @@ module _ (a : Answer) where
     apart = (λ p. (z, n), λ p. refl);
     one = unfold count in refl;
   })
-  kind-by (withArea z n h) = rw (of-area z n h) (record {
+  kind-by (areaAbove z n h) = rw (of-area z n h) (record {
     overlapping = (λ p. inr (n, h), λ p. refl);
     touching = (λ p. absurd (false≢true p), λ p. absurd (true≢false (sym h ∙ (ap isAbove (p .2) ∙ not-nought))));
     apart = (λ p. absurd (false≢true p), λ p. absurd (n (p .1)));
     one = unfold count in refl;
   })
-  kind-by (without z n e) = rw (of-none z n e) (record {
+  kind-by (areaNought z n e) = rw (of-none z n e) (record {
     overlapping = (λ p. absurd (false≢true p), λ p. absurd (not-overlapping z (inr e) p));
     touching = (λ p. (z, n, e), λ p. refl);
     apart = (λ p. absurd (false≢true p), λ p. absurd (n (p .1)));
@@ -100,27 +100,27 @@ no-ring l [] h = refl
 no-ring l (p ∷ r) h = absurd (omega (arith, h))
 
 module _ (l : List Float) where
-  of-answer : finite (answerOf l .area) ≡ true → Found (answerOf l)
+  of-answer : finite (answerOf l .area) ≡ true → AnswerIs (answerOf l)
   unfolding answerOf ringPositions
   of-answer f = go (eqb (length (ringOf l)) 0) refl (isAbove (areaOf (ringPositions l) .value)) refl
     where
-      go : (b : Bool) → eqb (length (ringOf l)) 0 ≡ b → (c : Bool) → isAbove (areaOf (ringPositions l) .value) ≡ c → Found (answerOf l)
+      go : (b : Bool) → eqb (length (ringOf l)) 0 ≡ b → (c : Bool) → isAbove (areaOf (ringPositions l) .value) ≡ c → AnswerIs (answerOf l)
       go true e c h = let n = eqb-true (length (ringOf l)) 0 e in ringless refl n (no-ring l (ringOf l) n)
-      go false e true h = withArea refl (eqb-false (length (ringOf l)) 0 e) h
-      go false e false h = without refl (eqb-false (length (ringOf l)) 0 e) (area-nought (ringPositions l) f h)
+      go false e true h = areaAbove refl (eqb-false (length (ringOf l)) 0 e) h
+      go false e false h = areaNought refl (eqb-false (length (ringOf l)) 0 e) (area-nought (ringPositions l) f h)
 
-  found : Found (answerTo l)
-  found = go (eqb (refusalOf l enough) 0) refl
+  answer-is : AnswerIs (answerTo l)
+  answer-is = go (eqb (refusalOf l enough) 0) refl
     where
-      go : (b : Bool) → eqb (refusalOf l enough) 0 ≡ b → Found (answerTo l)
+      go : (b : Bool) → eqb (refusalOf l enough) 0 ≡ b → AnswerIs (answerTo l)
       go true e = let q = answered-is l enough (eqb-true (refusalOf l enough) 0 e) in
-          subst Found (sym (ap (λ w. w .answer) q)) (unfold answered in of-answer (subst (λ w. finite (w .answer .area) ≡ true) q (finite-answer l enough (ap (λ w. w .answer .number) q ∙ (unfold answered answerOf in refl)) .area)))
+          subst AnswerIs (sym (ap (λ w. w .answer) q)) (unfold answered in of-answer (subst (λ w. finite (w .answer .area) ≡ true) q (finite-answer l enough (ap (λ w. w .answer .number) q ∙ (unfold answered answerOf in refl)) .area)))
       go false e = let h = eqb-false (refusalOf l enough) 0 e in
-          subst Found (sym (ap (λ w. w .answer) (refused-is l enough h))) (refusedAs h refl refl)
+          subst AnswerIs (sym (ap (λ w. w .answer) (refused-is l enough h))) (refusedOne h refl refl)
 
   kind-of : KindBy (answerTo l) (decisionOf l)
   unfolding decisionOf
-  kind-of = kind-by (answerTo l) found
+  kind-of = kind-by (answerTo l) answer-is
 
 pub one-kind : OneKind
 one-kind values = kind-of values
@@ -133,8 +133,8 @@ module _ (l : List Float) where
   refused-by : {n : ℕ} → n ≡ a .number → (k : ℕ) → (k ≡ 0 → ⊥) → (n ≡ k) ↔ RefusedBy k l enough
   refused-by e k h = let w = exactly-when l enough .refusedBy k h in (λ p. w .0 (sym e ∙ p), λ p. e ∙ w .1 p)
 
-  said-by : Found a → SaidDemand l (said (decided a))
-  said-by (refusedAs h n e) = rw (of-refused a h) (record {
+  said-by : AnswerIs a → SaidDemand l (said (decided a))
+  said-by (refusedOne h n e) = rw (of-refused a h) (record {
     refusedBy = refused-by refl;
     number = refl;
     area = sym e;
@@ -154,7 +154,7 @@ module _ (l : List Float) where
     kinds = omega arith;
     zeros = λ p. absurd (p refl);
   })
-  said-by (withArea z n h) = rw (of-area a z n h) (record {
+  said-by (areaAbove z n h) = rw (of-area a z n h) (record {
     refusedBy = refused-by (sym z);
     number = sym z;
     area = refl;
@@ -164,7 +164,7 @@ module _ (l : List Float) where
     kinds = omega arith;
     zeros = λ p. absurd (p refl);
   })
-  said-by (without z n e) = rw (of-none a z n e) (record {
+  said-by (areaNought z n e) = rw (of-none a z n e) (record {
     refusedBy = refused-by (sym z);
     number = sym z;
     area = sym e;
@@ -177,7 +177,7 @@ module _ (l : List Float) where
 
 pub said-returned : SaidReturned
 unfolding decisionOf
-said-returned values result p = subst (SaidDemand values) (sym (p .result-is)) (said-by values (found values))
+said-returned values result p = subst (SaidDemand values) (sym (p .result-is)) (said-by values (answer-is values))
 
 -- ---- the room
 module _ (l room : List Float) (long : 12 ≤ length room) where
