@@ -19,7 +19,7 @@ use Rattle.listing.specs.Promise.{ListPromise}
 use Rattle.listing.proofs.Returned.{by-file, past-file, by-list, returned-one}
 use Rattle.writing.specs.Triples.{leaksIn, heldIn, WrittenAs}
 use Rattle.writing.proofs.Written.{held-all}
-use Rattle.leaklist.specs.Code.{Found, foundIn, foundByRules, toldOf}
+use Rattle.leaklist.specs.Code.{foundIn, foundByRules, toldOf}
 
 -- ---- the list of a good file
 pub keeps : (file room found : List ℕ) (c : Counts) {r : Listed} {after : List ℕ} → Layout file → foundIn found c ≡ foundByRules file → WrittenAs (leaksIn found (heldIn found (c .leaks))) (c .touching) room r after → c .leaks ≤ 4096 → length found ≡ 12288 → ListPromise file room r after

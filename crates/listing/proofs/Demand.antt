@@ -15,7 +15,7 @@ use Rattle.layout.specs.Parts.{countOf, entryAt}
 use Rattle.listing.specs.Turns.{upTo}
 use Rattle.listing.specs.Pairs.{isTest, isTraining, decisionAt, decisions}
 use Rattle.listing.specs.Leaks.{tests, trainings, recordingPairs, tallyFor, isLeak, leakPairs, leakOf, leaks, isTouching, touchingPairs, touching}
-use Rattle.listing.specs.Demand.{Compared, SomePair, Overlap, Touch, Leaking, OnlyTouching, InTableOrder, AllDecided, lineFor, touchingFor, noLeak, DemandTwo}
+use Rattle.listing.specs.Demand.{Compared, SomePair, Leaking, OnlyTouching, InTableOrder, AllDecided, lineFor, noLeak, DemandTwo}
 use Rattle.listing.proofs.Turns.{below, reached, kept, passed, mapped, unmapped, in-each, of-each, Sorted, sorted-filter, sorted-map, sorted-each, sorted-upTo, sorted-at, map-at}
 use Rattle.listing.proofs.Tallied.{tally-overlapping, tally-touching, counted-one, one-counted, decision-in, decision-of, how-many, in-turn}
 

@@ -5,7 +5,7 @@ use mathlib.Core.List.{List, [], _∷_}
 use Prim.Native.Nat.{ℕ, zero, suc, _+_, _-_}
 use lib.Dec.{T}
 use lib.ListN.{length}
-use lib.Ieee.{Float, binary64, mul, sub, ofBits, fits}
+use lib.Ieee.{binary64, mul, ofBits, fits}
 use lib.Ieee.Fits.{add-fits, sub-fits, mul-fits}
 use lib.Ieee.Bits.{ofBits-fits}
 use Rattle.floats.specs.Finite.{finite, nought}

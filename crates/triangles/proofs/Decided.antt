@@ -1,7 +1,7 @@
 -- Every list of values overlaps, touches or is apart, exactly one of them, by its answer's number, n and area; what is said of it is the answer's number, its kind and the area; and no second answer fits. Assumes nothing.
 use mathlib.Core.Path.{_≡_, refl, sym, ap, subst, _∙_}
 use mathlib.Core.Logic.{_⊎_, inl, inr, _↔_}
-use mathlib.Core.Bool.{Bool, true, false, cond, true≢false, false≢true}
+use mathlib.Core.Bool.{Bool, true, false, true≢false, false≢true}
 use mathlib.Core.List.{List, [], _∷_, map}
 use Prim.Native.Nat.{ℕ, _≤_}
 use native.Mathlib.Omega.{arith}
@@ -13,14 +13,13 @@ use Rattle.floats.specs.Finite.{finite, nought}
 use Rattle.floats.specs.Lists.{count}
 use Rattle.ring.specs.Places.{Place}
 use Rattle.triangles.specs.declared.Answer.{Answer}
-use Rattle.triangles.specs.declared.Decision.{Decision}
 use Rattle.triangles.specs.declared.Decision.the-variants.{Refused, Overlapping, Touching, Apart}
 use Rattle.triangles.specs.Pair.{ringOf}
 use Rattle.triangles.specs.Positions.{positionOf, ringPositions, areaOf}
 use Rattle.triangles.specs.Refusals.{Row, lengths, coordinates, wayToD, dZero, wayToE, eZero, wayToParameter, wayToPairTest, wayToPosition, wayToArea, table, rowTest, firstOf, refusalOf}
 use Rattle.triangles.specs.Answers.{answerOf, answered, wholeOf}
 use Rattle.triangles.specs.Rows.{RefusedBy}
-use Rattle.triangles.specs.Decision.{isAbove, decided, enough, answerTo, decisionOf, overlaps, touches, isApart, said, OverlapsBy, TouchesBy, ApartBy, KindBy, OneKind, NoSecondDecision, NoSecondSaid, SaidDemand, SaidReturned, AnyRoom}
+use Rattle.triangles.specs.Decision.{isAbove, decided, enough, answerTo, decisionOf, overlaps, touches, said, OverlapsBy, KindBy, OneKind, NoSecondDecision, NoSecondSaid, SaidDemand, SaidReturned, AnyRoom}
 use Rattle.triangles.proofs.Rows.{answered-is, refused-is, exactly-when}
 use Rattle.triangles.proofs.FiniteAnswer.{finite-answer}
 use Rattle.triangles.proofs.Areas.{area-nought}
