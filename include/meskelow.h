@@ -154,8 +154,8 @@ typedef struct {
 
 /* The leak list of the file: `leaks K`; then for each test recording and training recording with a triangle pair that overlaps, in
  * table order, a line `test T train R pairs N` with their ids and the number of triangle pairs that overlap; last, always, the
- * closing line `touching K` with the number of test and training recordings that have a triangle pair that touches and none that
- * overlaps, each two of them counted once. Decimal numbers, a line feed after each line. The shortest list has 19 bytes. */
+ * closing line `touching K` with the number of pairs of a test and a training recording that have a triangle pair that touches and
+ * none that overlaps, each counted once. Decimal numbers, a line feed after each line. The shortest list has 19 bytes. */
 meskelow_list meskelow_leaks(const uint8_t *file, size_t file_len, uint8_t *room, size_t room_len);
 
 #ifdef __cplusplus

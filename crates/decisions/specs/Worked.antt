@@ -1,21 +1,26 @@
 -- 02, No. 1, worked by hand: what is said of 01's cases A to L, of lists of other lengths, of areas at the lower end of all floats, and of two pairs in which rounding speaks against exact numbers. Definitions and statements.
 use mathlib.Core.Path.{_≡_}
+use mathlib.Core.Bool.{Bool, true, false}
 use mathlib.Core.List.{List, [], _∷_, _++_, map}
 use Prim.Native.Nat.{ℕ, _^_}
 use lib.IntN.{ℤ, pos, negsuc}
 use lib.Ieee.{Float, nan, binary64, ofInt, ofBits}
 use Rattle.triangles.specs.declared.Said.{Said}
-use Rattle.triangles.specs.Decision.{said, decisionOf}
+use Rattle.triangles.specs.Decision.{said, decisionOf, overlaps, touches}
 
--- values, and what is said of them
+-- values, what is said of them, and whether the list takes them as overlapping or touching
 pub record Case : Type 0 where
   pub values : List Float
   pub says : Said
+  pub overlaps : Bool
+  pub touches : Bool
 
 pub record Shown (c : Case) : Type 0 where
   pub number : said (decisionOf (c .values)) .number ≡ c .says .number
   pub kind : said (decisionOf (c .values)) .kind ≡ c .says .kind
   pub area : said (decisionOf (c .values)) .area ≡ c .says .area
+  pub overlaps : overlaps (decisionOf (c .values)) ≡ c .overlaps
+  pub touches : touches (decisionOf (c .values)) ≡ c .touches
 
 -- a triangle in whole numbers: `pos k` is k, `negsuc k` is −(k + 1)
 abbrev triangle : ℤ → ℤ → ℤ → ℤ → ℤ → ℤ → List Float
@@ -26,17 +31,17 @@ zero = ofBits binary64 0
 
 -- the four ways
 abbrev refused : ℕ → List Float → Case
-refused k l = record { values = l; says = record { number = k; kind = 0; area = zero } }
+refused k l = record { values = l; says = record { number = k; kind = 0; area = zero }; overlaps = true; touches = false }
 
 abbrev apart : List Float → Case
-apart l = record { values = l; says = record { number = 0; kind = 0; area = zero } }
+apart l = record { values = l; says = record { number = 0; kind = 0; area = zero }; overlaps = false; touches = false }
 
 abbrev touching : List Float → Case
-touching l = record { values = l; says = record { number = 0; kind = 1; area = zero } }
+touching l = record { values = l; says = record { number = 0; kind = 1; area = zero }; overlaps = false; touches = true }
 
 -- with the area's bits
 abbrev overlapping : List Float → ℕ → Case
-overlapping l bits = record { values = l; says = record { number = 0; kind = 2; area = ofBits binary64 bits } }
+overlapping l bits = record { values = l; says = record { number = 0; kind = 2; area = ofBits binary64 bits }; overlaps = true; touches = false }
 
 -- V unless given, U of A, V of C, and a triangle on one line
 abbrev v : List Float

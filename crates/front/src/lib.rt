@@ -1,4 +1,4 @@
-// What is told before the orders along edges: the rows of the refusals from the coordinates to the parameters, and the pairs of which nothing meets.
+// What is told before the orders along edges: the rows of the refusals from the coordinates to the parameters, and the pairs without a ring.
 ghost use mathlib.Core.Path.{_≡_};
 ghost use Rattle.floats.specs.Lists.{all};
 ghost use Rattle.floats.specs.Finite.{finite};

@@ -1,4 +1,4 @@
--- Demand 2 of the list: a line for exactly the recordings that leak, in table order, each once, with how many of their triangle pairs overlap; and the last line counts exactly those that only touch, each once. Assumes nothing.
+-- Demand 2 of the list: a line for exactly the recordings that leak, in table order, each once, with how many of their triangle pairs overlap; and the closing line counts exactly those that only touch, each once. Assumes nothing.
 use Prim.Native.Nat.{ℕ, zero, suc, _<_}
 use mathlib.Core.Path.{_≡_, refl, sym, ap, subst, _∙_}
 use mathlib.Core.Logic.{_⊎_, inl, inr}

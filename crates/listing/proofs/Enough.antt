@@ -1,4 +1,4 @@
--- The list of a good file has at most 1,024 leak lines of at most 50 bytes, a first line and a last, so 65,536 bytes are always enough. Assumes nothing.
+-- The list of a good file has at most 1,024 leak lines of at most 50 bytes, a first line and a closing line, so 65,536 bytes are always enough. Assumes nothing.
 use Prim.Native.Nat.{ℕ, zero, suc, _+_, _-_, _*_, _/_, _^_, _<_, _≤_}
 use mathlib.Core.Path.{_≡_, refl, sym, ap, subst}
 use mathlib.Core.Bool.{Bool, true, false, cond, false≢true}

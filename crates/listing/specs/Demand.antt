@@ -1,4 +1,4 @@
--- Demand 2 of the leak list, in the words of 02, No. 1: which lines there are, in which order, what stands in them, and what the last line counts, in facts about the file's recordings and triangles. Statements only.
+-- Demand 2 of the leak list, in the words of 02, No. 1: which lines there are, in which order, what stands in them, and what the closing line counts, in facts about the file's recordings and triangles. Statements only.
 use Prim.Native.Nat.{ℕ, _+_, _*_, _<_}
 use mathlib.Core.Path.{_≡_}
 use mathlib.Core.Logic.{_⊎_, _↔_}
@@ -76,12 +76,12 @@ pub record ListDemand2 (file : List ℕ) : Type 0 where
   pub named : (i j : ℕ) → (leakOf file (i, j) .test ≡ entryAt file i .id) × (leakOf file (i, j) .train ≡ entryAt file j .id) × (leakOf file (i, j) .pairs ≡ tallyFor file (i, j) .overlapping)
   pub counted : (i j : ℕ) → tallyFor file (i, j) .overlapping ≡ count overlaps (decisions file (entryAt file i) (entryAt file j))
   pub decided : (i j : ℕ) → AllDecided file i j
-  -- the last line's number is how many pairs there are of a test and a training recording that only touch: the pairs counted are those and no other, and each is counted once
+  -- the closing line's number is how many pairs there are of a test and a training recording that only touch: the pairs counted are those and no other, and each is counted once
   pub touchingExactlyIf : (i j : ℕ) → List·Memᴰ (i, j) (touchingPairs file) ↔ OnlyTouching file i j
   pub touchingInOrder : (k l : ℕ) → k < l → l < length (touchingPairs file) → InTableOrder (touchingFor file k) (touchingFor file l)
   pub touchingOnce : (k l : ℕ) → k < length (touchingPairs file) → l < length (touchingPairs file) → touchingFor file k ≡ touchingFor file l → k ≡ l
   pub touchingCounted : touching file ≡ length (touchingPairs file)
-  -- a held back recording has no part in any line, nor in what the last line counts
+  -- a held back recording has no part in any line, nor in what the closing line counts
   pub noHeldBack : (i j k : ℕ) → List·Memᴰ (i, j) (leakPairs file) ⊎ List·Memᴰ (i, j) (touchingPairs file) → entryAt file k .set ≡ 2 → (i ≡ k → ⊥) × (j ≡ k → ⊥)
 
 abbrev pub DemandTwo : Type 0

@@ -1,4 +1,4 @@
--- 01, "The leak list", with 02, No. 1, read back: whoever takes the numbers out of the text, from left to right, has the number of leaks, of each leak its two ids and N, and last the number of pairs of recordings that only touch, and nothing else; and between the first line and the last there is one for each leak. Definitions and statements.
+-- 01, "The leak list", with 02, No. 1, read back: whoever takes the numbers out of the text, from left to right, has the number of leaks, of each leak its two ids and N, and last the number of pairs of recordings that only touch, and nothing else; and between the first line and the closing line there is one for each leak. Definitions and statements.
 use Prim.Native.Nat.{ℕ, _+_, _-_, _*_}
 use mathlib.Core.Path.{_≡_}
 use mathlib.Core.Bool.{Bool, true, false, _&&_, cond}

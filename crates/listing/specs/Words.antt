@@ -56,7 +56,7 @@ unfoldable pub leakLines : List Leak → List ℕ
 unfolding leakLine each
 leakLines ls = each leakLine ls
 
--- the last line, also where the number is 0: how many pairs of recordings only touch
+-- the closing line, also where the number is 0: how many pairs of recordings only touch
 abbrev pub closingLine : ℕ → List ℕ
 closingLine k = countLine touchingWord k
 

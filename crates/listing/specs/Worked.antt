@@ -1,4 +1,4 @@
--- Lists worked by hand: 01's example with 02's last line, rooms around its length, files in which a wrong order, a wrong count, a wrong set or U for V would show, and files of recordings that share an edge, a part of one, or a corner. Definitions and statements.
+-- Lists worked by hand: 01's example with 02's closing line, rooms around its length, files in which a wrong order, a wrong count, a wrong set or U for V would show, and files of recordings that share an edge, a part of one, or a corner. Definitions and statements.
 use Prim.Native.Nat.{ℕ, _+_}
 use mathlib.Core.Path.{_≡_}
 use mathlib.Core.List.{List, [], _∷_, _++_}
@@ -115,11 +115,19 @@ vTied = six (small 4) (small 1) (small 2) minusOne (small 0) (small 1)
 abbrev pub uTurned : List ℕ
 uTurned = six (small 6) (small 0) (small 4) (small 1) (small 4) minusOne
 
+-- (1,1),(1,−3),(5,−1), with U of D's edge from (1,1) to (1,−3)
+abbrev pub vBeside : List ℕ
+vBeside = six (small 1) (small 1) (small 1) (253 ∷ 255 ∷ 255 ∷ 255 ∷ []) (small 5) minusOne
+
+-- test 9 with U of D, training 7 with V, trainings 3 and 5 with the triangle beside U
+abbrev pub oneAndTwo : List ℕ
+oneAndTwo = u ++ (v ++ (vBeside ++ (vBeside ++ (changed 9 0 1 0 1 0 ++ (changed 7 24 1 0 0 0 ++ (changed 3 48 1 0 0 0 ++ (changed 5 72 1 0 0 0 ++ trailer 96 4 156)))))))
+
 -- (20,20),(21,20),(20,21), far from all others
 abbrev pub vFar : List ℕ
 vFar = six (small 20) (small 20) (small 21) (small 20) (small 20) (small 21)
 
--- test 9 with U of E and of D, training 7 with a far V and with V, test 4 with the turned U: only the second with the second meets
+-- test 9 with U of E and of D, training 7 with a far V and with V, test 4 with the turned U: only the second with the second overlaps
 abbrev pub seconds : List ℕ
 seconds = uE ++ (u ++ (vFar ++ (v ++ (uTurned ++ (changed 9 0 2 0 1 0 ++ (changed 7 48 2 0 0 0 ++ (changed 4 96 1 0 1 0 ++ trailer 120 3 168)))))))
 
@@ -180,6 +188,8 @@ cases =
     -- one pair touches and one overlaps: a line, and not among those that only touch
     ∷ listed (bothKinds uF u) 42 42 1 0 oneLine 0
     ∷ listed (bothKinds u uF) 42 42 1 0 oneLine 0
+    -- one test recording overlaps a training recording and touches two others
+    ∷ listed oneAndTwo 42 42 1 2 (first 1 ++ (line 9 7 1 ++ last 2)) 0
     -- by the computed area, and by the computed ring
     ∷ listed (pairOf vRounded uRounded seven nine) 42 42 1 0 oneLine 0
     ∷ listed (pairOf vTied uTied seven nine) 19 19 0 0 (noLine 0) 0

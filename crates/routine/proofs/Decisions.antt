@@ -15,6 +15,7 @@ use Rattle.triangles.specs.Answers.{refusal}
 use Rattle.triangles.specs.Promise.{PairPromise}
 use Rattle.triangles.specs.declared.Said.{Said}
 use Rattle.triangles.specs.Decision.{enough, decided, decisionOf, said, Decided, SaidOf}
+use Rattle.triangles.proofs.Decided.{decided-as}
 use Rattle.front.specs.Front.{beyondBy}
 use Rattle.shapes.specs.declared.Shape.{Shape}
 use Rattle.shapes.specs.Shapes.{Made, first, second, third, sideA, sideB, twelve}
@@ -25,7 +26,7 @@ use Rattle.routine.proofs.Shapes.{shapes-give}
 
 pub decision-is : (l : List Float) {a : Answer} {after : List Float} {r : Decision} → PairPromise l enough a after → r ≡ decided a → Decided l r
 unfolding decisionOf
-decision-is l h e = record { result-is = e ∙ ap decided (h .result-is) }
+decision-is l h e = decided-as l (e ∙ ap decided (h .result-is))
 
 -- in numbers
 pub said-is : (l : List Float) {d : Decision} {r : Said} → Decided l d → r ≡ said d → SaidOf l r

@@ -13,16 +13,17 @@ use Rattle.floats.specs.Finite.{finite, nought}
 use Rattle.floats.specs.Lists.{count}
 use Rattle.ring.specs.Places.{Place}
 use Rattle.triangles.specs.declared.Answer.{Answer}
+use Rattle.triangles.specs.declared.Decision.{Decision}
 use Rattle.triangles.specs.declared.Decision.the-variants.{Refused, Overlapping, Touching, Apart}
 use Rattle.triangles.specs.Pair.{ringOf}
 use Rattle.triangles.specs.Positions.{positionOf, ringPositions, areaOf}
 use Rattle.triangles.specs.Refusals.{Row, lengths, coordinates, wayToD, dZero, wayToE, eZero, wayToParameter, wayToPairTest, wayToPosition, wayToArea, table, rowTest, firstOf, refusalOf}
 use Rattle.triangles.specs.Answers.{answerOf, answered, wholeOf}
 use Rattle.triangles.specs.Rows.{RefusedBy}
-use Rattle.triangles.specs.Decision.{isAbove, decided, enough, answerTo, decisionOf, overlaps, touches, said, OverlapsBy, KindBy, OneKind, NoSecondDecision, NoSecondSaid, SaidDemand, SaidReturned, AnyRoom}
+use Rattle.triangles.specs.Decision.{isAbove, decided, enough, answerTo, decisionOf, overlaps, touches, said, OverlapsBy, KindBy, OneKind, Decided, NoSecondDecision, NoSecondSaid, SaidDemand, SaidReturned, AnyRoom}
 use Rattle.triangles.proofs.Rows.{answered-is, refused-is, exactly-when}
 use Rattle.triangles.proofs.FiniteAnswer.{finite-answer}
-use Rattle.triangles.proofs.Areas.{area-nought}
+use Rattle.triangles.proofs.Nought.{area-nought}
 
 pub no-second-decision : NoSecondDecision
 no-second-decision values r s p q = p .result-is ∙ sym (q .result-is)
@@ -177,6 +178,11 @@ module _ (l : List Float) where
 pub said-returned : SaidReturned
 unfolding decisionOf
 said-returned values result p = subst (SaidDemand values) (sym (p .result-is)) (said-by values (answer-is values))
+
+-- the definition's decision keeps the promise
+pub decided-as : (l : List Float) {r : Decision} → r ≡ decisionOf l → Decided l r
+unfolding decisionOf
+decided-as l e = record { result-is = e; says = subst (λ d. SaidDemand l (said d)) (sym e) (said-by l (answer-is l)) }
 
 -- ---- the room
 module _ (l room : List Float) (long : 12 ≤ length room) where

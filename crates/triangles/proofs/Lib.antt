@@ -1,7 +1,7 @@
 pub mod Cases
 pub mod Rows
 pub mod Unique
-pub mod Areas
+pub mod Nought
 pub mod Decided
 pub mod Demand
 pub mod Rest

@@ -22,7 +22,7 @@ use Rattle.triangles.specs.Rows.{RefusedBy}
 abbrev pub isAbove : Float → Bool
 isAbove area = lt nought area
 
--- a refusal with its number; no corners: apart; corners and an area above zero: overlapping, with that area; corners and none: touching
+-- a refusal with its number; no corners: apart; corners and an area above zero: overlapping, with that area; corners and no such area: touching
 unfoldable pub decided : Answer → Decision
 decided a = cond (eqb (a .number) 0) (cond (eqb (a .n) 0) Apart (cond (isAbove (a .area)) (Overlapping (a .area)) Touching)) (Refused (a .number))
 
@@ -61,7 +61,7 @@ isApart Touching = false
 isApart Apart = true
 
 -- ---- what is said of a decision
--- the number of a refusal, or 0; the kind, 0 apart, 1 touching, 2 overlapping; the area. Beside a refusal's number there are zeros
+-- the number of a refusal, or 0; the kind, 0 apart, 1 touching, 2 overlapping; the area. Beside a refusal's number there are zeros; there kind 0 does not say apart, since such a pair overlaps
 abbrev pub said : Decision → Said
 said (Refused k) = record { number = k; kind = 0; area = nought }
 said (Overlapping a) = record { number = 0; kind = 2; area = a }
@@ -92,15 +92,7 @@ pub record KindBy (a : Answer) (d : Decision) : Type 0 where
 abbrev pub OneKind : Type 0
 OneKind = (values : List Float) → KindBy (answerTo values) (decisionOf values)
 
--- ---- what is promised of a decision, of any list of values: it is the definition's
-pub record Decided (values : List Float) (result : Decision) : Type 0 where
-  pub result-is : result ≡ decisionOf values
-
--- no second decision meets it
-abbrev pub NoSecondDecision : Type 0
-NoSecondDecision = (values : List Float) → NoSecond Decision (Decided values)
-
--- and of what is said of it
+-- ---- what is promised of a decision in numbers, of any list of values: it says the definition's decision
 pub record SaidOf (values : List Float) (result : Said) : Type 0 where
   pub result-is : result ≡ said (decisionOf values)
 
@@ -113,7 +105,7 @@ pub record SaidDemand (values : List Float) (result : Said) : Type 0 where
   pub refusedBy : (k : ℕ) → (k ≡ 0 → ⊥) → (result .number ≡ k) ↔ RefusedBy k values enough
   pub number : result .number ≡ answerTo values .number
   pub area : result .area ≡ answerTo values .area
-  -- its kind is the pair's, by the answer's n and area
+  -- of an answer its kind is the pair's, by n and area
   pub overlapping : (result .kind ≡ 2) ↔ ((answerTo values .n ≡ 0 → ⊥) × (isAbove (answerTo values .area) ≡ true))
   pub touching : (result .kind ≡ 1) ↔ TouchesBy (answerTo values)
   pub apart : ((result .number ≡ 0) × (result .kind ≡ 0)) ↔ ApartBy (answerTo values)
@@ -123,6 +115,15 @@ pub record SaidDemand (values : List Float) (result : Said) : Type 0 where
 
 abbrev pub SaidReturned : Type 0
 SaidReturned = (values : List Float) (result : Said) → SaidOf values result → SaidDemand values result
+
+-- ---- what is promised of a decision: it is the definition's, and in numbers it says all of this
+pub record Decided (values : List Float) (result : Decision) : Type 0 where
+  pub result-is : result ≡ decisionOf values
+  pub says : SaidDemand values (said result)
+
+-- no second decision meets it
+abbrev pub NoSecondDecision : Type 0
+NoSecondDecision = (values : List Float) → NoSecond Decision (Decided values)
 
 -- whatever room is lent, if it is long enough, the answer is the one that is decided by
 abbrev pub AnyRoom : Type 0

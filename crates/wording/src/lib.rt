@@ -81,7 +81,7 @@ pub fn put_first(room: &mut [u8], k: u32) -> usize
     put_count(room, 0, b"leaks ", k)
 }
 
-// The length of the last line of a list with k pairs of recordings that only touch.
+// The length of the closing line of a list with k pairs of recordings that only touch.
 pub fn closing_length(k: u32) -> usize
     ensures { λ r. ⌜ Measured (closingLine k) r × (r ≤ k + 11) ⌝ }
 {

@@ -22,6 +22,8 @@ pub const U_OF_D: Triangle = [1, 1, -3, 1, 1, -3];
 const U_OF_E: Triangle = [10, 10, 11, 10, 10, 11];
 /// Shares V's edge 1 from end to end.
 const U_OF_F: Triangle = [0, 0, 4, 0, 0, -4];
+/// With U of D's edge from (1,1) to (1,−3), and on its other side.
+const BESIDE_D: Triangle = [1, 1, 1, -3, 5, -1];
 /// Shares the middle of that edge. As a U its first two vertices are in V, with a y of zero; where its other
 /// edges cross line 1, t is zero, so that the ring is (1,0), (3,0), (3,0), (1,0).
 const WITHIN_THE_EDGE: Triangle = [1, 0, 3, 0, 2, -2];
@@ -198,6 +200,16 @@ fn four_by_three() -> Worked {
 /// the same list may touch.
 fn both_kinds() -> Vec<Worked> {
     vec![
+        // One test recording overlaps a training recording and only touches two others.
+        listed(
+            "leaks 1\ntest 9 train 7 pairs 1\ntouching 2\n",
+            &[
+                (9, TEST, &[U_OF_D]),
+                (7, TRAINING, &[V]),
+                (3, TRAINING, &[BESIDE_D]),
+                (5, TRAINING, &[BESIDE_D]),
+            ],
+        ),
         listed(EXAMPLE_LIST, &[(7, TRAINING, &[V]), (9, TEST, &[U_OF_F, U_OF_D])]),
         listed(EXAMPLE_LIST, &[(7, TRAINING, &[V]), (9, TEST, &[U_OF_D, U_OF_F])]),
         listed(EXAMPLE_LIST, &[(9, TEST, &[AT_THE_CORNER, U_OF_E, U_OF_F, U_OF_A]), (7, TRAINING, &[V])]),

@@ -1,4 +1,4 @@
--- The whole list is measured against the room; then its first line is put, the others behind it, and the last behind those.
+-- The whole list is measured against the room; then its first line is put, the leak lines behind it, and the closing line behind those.
 use borrow.Author.Needs.{needs}
 use denote.Ref.{now}
 use native.Mathlib.Omega.{arith}
