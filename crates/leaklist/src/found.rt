@@ -6,16 +6,14 @@ ghost use lib.ListN.{length};
 ghost use Rattle.layout.specs.Parts.{countOf, entryAt, tablePlace};
 ghost use Rattle.writing.specs.Triples.{leaksIn};
 ghost use Rattle.leaklist.specs.Code.{Gathering, foundIn, together, leakOn, itemOf, rowTo, testOf, listTo};
-use crate::tallies::leak;
 use crate::tallies::tally;
-use crate::tallies::touching_in;
 
 // One more leak, if the two recordings leak; how many there are then.
 fn add(found: &mut [u32], k: u32, test: u32, train: u32, t: listing::Tally) -> u32
     requires { ⌜ (k < 4096) × (length (now found) ≡ 12288) ⌝ }
     ensures { λ r. ⌜ (leaksIn (now (found .exit)) r ≡ leaksIn (now (found .entry)) k ++ leakOn test train t) × (r ≤ k + 1) ⌝ }
 {
-    if leak(t) {
+    if counting::leak(t) {
         let at = 3 * (k as usize);
         found[at] = test;
         found[at + 1] = train;
@@ -50,7 +48,7 @@ fn add_pair(
         (f.first / 24) as usize,
         f.count as usize,
     );
-    let more = touching_in(t);
+    let more = counting::one_if(counting::only_touch(t));
     let touching = c.touching + more;
     let leaks = add(found, c.leaks, e.id, f.id, t);
     listing::Counts { leaks, touching }

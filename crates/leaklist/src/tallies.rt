@@ -1,19 +1,12 @@
-// Decisions of prepared triangles, counted, and what the counts make of two recordings.
+// Decisions of prepared triangles, counted.
 ghost use mathlib.Core.Path.{_≡_};
 ghost use Prim.Native.Nat.{_+_, _≤_, _<_};
 ghost use lib.ListN.{length};
-ghost use Rattle.floats.specs.Lists.{once};
 ghost use Rattle.shapes.specs.Shapes.{Made};
 ghost use Rattle.listing.specs.Turns.{folded};
-ghost use Rattle.listing.specs.Pairs.{tallied as talliedBy, leak as leakBy, onlyTouch as onlyTouchBy};
+ghost use Rattle.listing.specs.Pairs.{tallied as talliedBy};
 ghost use Rattle.leaklist.specs.Code.{shapeIn, MadeFrom, rowIn, tallyIn};
 use crate::prepared::shape_in;
-
-fn one_if(test: bool) -> u32
-    ensures { λ r. ⌜ (r ≡ once test) × (r ≤ 1) ⌝ }
-{
-    if test { 1 } else { 0 }
-}
 
 // One more decision counted. Most are apart, and add nothing.
 fn tallied(t: listing::Tally, d: triangles::Decision) -> listing::Tally
@@ -23,9 +16,9 @@ fn tallied(t: listing::Tally, d: triangles::Decision) -> listing::Tally
     let overlaps = decisions::overlaps(d);
     let touches = decisions::touches(d);
     if overlaps | touches {
-        let more = one_if(overlaps);
+        let more = counting::one_if(overlaps);
         let overlapping = t.overlapping + more;
-        let touching = t.touching + one_if(touches);
+        let touching = t.touching + counting::one_if(touches);
         return listing::Tally {
             overlapping,
             touching,
@@ -65,25 +58,4 @@ pub(crate) fn tally(table: &[f64], i: usize, m: usize, j: usize, n: usize) -> li
         a = a + 1;
     }
     sum
-}
-
-// Whether two recordings of which this is counted leak.
-pub(crate) fn leak(t: listing::Tally) -> bool
-    ensures { λ r. ⌜ r ≡ leakBy t ⌝ }
-{
-    0 < t.overlapping
-}
-
-// Whether they only touch.
-fn only_touch(t: listing::Tally) -> bool
-    ensures { λ r. ⌜ r ≡ onlyTouchBy t ⌝ }
-{
-    (t.overlapping == 0) & (0 < t.touching)
-}
-
-// One more pair of recordings that only touch, if they do.
-pub(crate) fn touching_in(t: listing::Tally) -> u32
-    ensures { λ r. ⌜ (r ≡ once (onlyTouchBy t)) × (r ≤ 1) ⌝ }
-{
-    one_if(only_touch(t))
 }

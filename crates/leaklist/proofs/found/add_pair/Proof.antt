@@ -4,6 +4,7 @@ use borrow.Author.Needs.{needs}
 use denote.Ref.{now}
 use mathlib.Core.Path.{refl, ap, _∙_}
 use native.Mathlib.Omega.{arith}
+use Rattle.floats.specs.Lists.{once}
 use Rattle.leaklist.proofs.Gathered.{entry-is, no-item, an-item, pair-added, with-nothing, tally-fits, count-by}
 use Rattle.leaklist.specs.Code.{foundIn, together}
 use Rattle.leaklist.proofs.found.add_pair.Statement.{statement}
@@ -42,8 +43,11 @@ tally-requires c κs = let b = c .before .before .before .before .before .before
     let p = b .before .before .before .before .pre in
     tally-fits (now (g .file)) (now (g .table)) (p .0) (g .i) (g .j) (p .1) (p .4) (p .2) (entry-is (now (g .file)) (g .j) (g .at) (p .3) (b .entry-at .ensures .0))
 
-touching-in-requires : tie.Need-touching-in-requires
-touching-in-requires c κs = search needs
+only-touch-requires : tie.Need-only-touch-requires
+only-touch-requires c κs = search needs
+
+one-if-requires : tie.Need-one-if-requires
+one-if-requires c κs = search needs
 
 add-touching : tie.Need-add-touching
 add-touching c = search needs
@@ -57,13 +61,13 @@ same-length c = search needs
 returns-2 : tie.Need-returns-2
 returns-2 c = let added = c .before .before .add .ensures in
     let more = c .before .before .before .before .before in
-    let t = more .before in
+    let t = more .before .before in
     let read = t .before .before .before .before .before .before .before in
     let g = read .before .before .before .before .args in
     let p = read .before .before .before .before .pre in
     let f = entry-is (now (g .file)) (g .j) (g .at) (p .3) (read .entry-at .ensures .0) in
-    let one = more .touching-in .ensures in (
-      pair-added (foundIn (now (g .found)) (g .c)) (g .e .id) (read .entry-at .result .id) (t .tally .result) (added .0) (one .0) refl
+    let one = more .one-if .ensures in (
+      pair-added (foundIn (now (g .found)) (g .c)) (g .e .id) (read .entry-at .result .id) (t .tally .result) (added .0) (one .0 ∙ ap once (more .before .only-touch .ensures)) refl
           ∙ ap (together (foundIn (now (g .found)) (g .c))) (an-item (now (g .file)) (g .i) (g .j) (p .2) f (t .before .before .before .before .before .if1 .left) (count-by (now (g .file)) (now (g .table)) (p .0) (g .i) (g .j) (p .1) (p .4) (p .2) f (t .tally .ensures))),
       added .1,
       omega (arith, one .1),
@@ -82,7 +86,8 @@ add-pair-spec =
     cast-tally-3
     cast-tally-4
     tally-requires
-    touching-in-requires
+    only-touch-requires
+    one-if-requires
     add-touching
     add-requires
     same-length
