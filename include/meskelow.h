@@ -1,5 +1,5 @@
-/* Meskelow: the intersection of two triangles, whether they overlap, touch or are apart, the reader of footprint files and the
- * leak list, proved against their rules (docs/RULES.md).
+/* Meskelow: the intersection of two triangles, whether they overlap, touch or are apart, the reader and the writer of footprint
+ * files and the leak list, proved against their rules (docs/RULES.md).
  *
  * Link target/staticlib/libmeskelow.a, which `rt staticlib meskelow` makes: x86-64 Linux code that calls nothing but the C
  * library's memcpy and memset, allocates nothing, keeps no state and may be called from any number of threads at once. meskelow_leaks
@@ -8,13 +8,14 @@
  * What is proved (docs/PROMISES.md names each theorem): whatever numbers, bytes and lengths are passed, every call ends and
  * returns exactly the answer of the rules, in every bit of every field and of the room; nothing is read or written outside the
  * slices that are lent; nothing changes beyond the first 2n values of the room (of a NaN there it is proved that it is still a
- * NaN) or beyond the list's bytes, and nothing at all by a call that is refused or that is lent no room. Not proved: the
- * compiler's back end, memcpy, memset, and the caller.
+ * NaN) or beyond the bytes of the list or of the file that is written, and nothing at all by a call that is refused or that is
+ * lent no room; every file that is written is accepted and has what was given. Not proved: the compiler's back end, memcpy,
+ * memset, and the caller.
  *
- * What is left to the caller: the lengths are true, so that so many doubles or bytes may be read, and in the room read and
- * written; input and room do not overlap; nobody writes to what is lent before the call has returned; and the processor
- * rounds to nearest and keeps subnormal values, as it does unless a program asks otherwise. A length of 0 goes with any
- * pointer, NULL too. */
+ * What is left to the caller: the lengths are true, so that so many doubles, integers or bytes may be read, and in the room read
+ * and written; the room overlaps no values, file or list that is lent with it; nobody writes to what is lent before the call has
+ * returned; and the processor rounds to nearest and keeps subnormal values, as it does unless a program asks otherwise. A length
+ * of 0 goes with any pointer, NULL too. */
 #ifndef MESKELOW_H
 #define MESKELOW_H
 
@@ -80,24 +81,26 @@ typedef struct {
  * MESKELOW_CORNER_ROOM: 1 for any other number of values than twelve, and 4 also for the corners' positions and the area. */
 meskelow_decision meskelow_decide(const double *values, size_t values_len);
 
-/* Footprint files: README.md has the format. A file is lent whole, as the bytes that it has. Reading it from a disk, and what
- * can go wrong with that, is the caller's. */
+/* Footprint files: README.md has the format. A file is lent whole, as the bytes that it has. Reading it from a disk or writing it
+ * to one, and what can go wrong with that, is the caller's. */
 
 enum {
     MESKELOW_LONGEST_FILE = 65536 /* bytes. Whoever reads a file into such a buffer should make it a byte longer, so that a longer
                                    * file is seen to be too long */
 };
 
-/* Entries are judged before 15, each for 14 and then for 16; triangles last, each for 17 and then 18. */
+/* Entries are judged before 15, each for 14 and then for 16; triangles last, each for 17 and then 18. meskelow_write says 13 to 18
+ * too, of its lists, in an order of its own and always with place 0. */
 enum { /* refusals.tsv: file */
     MESKELOW_REFUSED_FILE_LENGTH = 11,   /* the file is shorter than 12 bytes or longer than 65,536 */
     MESKELOW_REFUSED_STORED_LENGTH = 12, /* the length in the trailer is not the file's, as after a copy that was cut off */
-    MESKELOW_REFUSED_TRAILER = 13,       /* there are over 64 recordings, or the table's place, 12 for each recording and 12
-                                          * for the trailer do not add up to the length (place: the trailer) */
-    MESKELOW_REFUSED_ENTRY = 14,         /* an entry has no triangles, a set over 2 or a last byte that is not 0, or does not
-                                          * begin where the one before ends, the first at 0 (place: the entry) */
-    MESKELOW_REFUSED_TABLE = 15,         /* the last triangle does not end at the table, or there are no recordings and the
-                                          * table is not at 0 (place: the table) */
+    MESKELOW_REFUSED_TRAILER = 13,       /* there are over 64 recordings, or in a file the table's place, 12 for each recording
+                                          * and 12 for the trailer do not add up to the length (place: the trailer) */
+    MESKELOW_REFUSED_ENTRY = 14,         /* an entry has no triangles, a set over 2 or a last byte that is not 0, or in a file
+                                          * does not begin where the one before ends, the first at 0 (place: the entry) */
+    MESKELOW_REFUSED_TABLE = 15,         /* the counts do not add up to the triangles, which in a file end at the table; or
+                                          * lists to be written differ in length or break off within a triangle (place: the
+                                          * table) */
     MESKELOW_REFUSED_SAME_ID = 16,       /* an entry has the id of an earlier one (place: the entry) */
     MESKELOW_REFUSED_OUT_OF_RANGE = 17,  /* a coordinate is out of range, which is -1,000,000 to 1,000,000 (place: the
                                           * triangle) */
@@ -135,6 +138,47 @@ typedef struct {
 /* Recording k of the file, from 0. Its triangles are the 24 * count bytes from file + first on, which lie in the file: six
  * little-endian int32_t each, x and y of three vertices in whole centimetres. Every call judges the whole file first. */
 meskelow_entry meskelow_recording(const uint8_t *file, size_t file_len, size_t k);
+
+enum { /* refusals.tsv: written */
+    MESKELOW_REFUSED_FILE_ROOM = 19 /* the room is shorter than the file to be written, or that file would be longer than
+                                     * 65,536 bytes */
+};
+
+typedef struct {
+    uint32_t number;   /* 0: an answer. Else one of 13 to 18 above, or 19, and both other fields are zero */
+    uint32_t place;    /* 0, also of a refusal: there is no file yet to have a place in */
+    size_t length;     /* of an answer, the file's bytes, at the front of the room: 24 for each triangle, 12 for each recording and
+                        * 12 for the trailer */
+} meskelow_written;
+
+/* Writes a footprint file to the front of the room, and leaves the rest of the room as it is. ids, counts and sets have an entry
+ * for each recording, in the order of the table: its id, how many triangles it has, its set. numbers has six for each triangle, x
+ * and y of three vertices in whole centimetres, first all triangles of the first recording, then all of the second, and so on.
+ * Where each recording begins, its last byte, which is 0, and the trailer are the writer's own.
+ *
+ * meskelow_check finds every file good that was written, and meskelow_recording hands its recordings back as they were given: ids,
+ * counts, sets and triangles. The other way round, what meskelow_recording tells of a good file, put into such lists for k from 0
+ * on, makes that file again, byte for byte.
+ *
+ * A call is refused, with nothing written, for the first of these that applies:
+ *
+ *     15  ids, counts and sets differ in length, or numbers_len is no multiple of 6, so that a triangle is broken off
+ *     14  entry after entry: its count is 0, or its set is over MESKELOW_HELD_BACK;
+ *     16                     else its id is that of an earlier entry
+ *     15  the counts do not add up to the triangles; the sum is exact, and 0 without recordings
+ *     17  triangle after triangle: a number is out of range;
+ *     18                           else it has no area
+ *     13  there are over 64 recordings
+ *     19  the room is shorter than the file, or the file would be longer than MESKELOW_LONGEST_FILE
+ *
+ * So MESKELOW_LONGEST_FILE bytes of room are always enough. Lengths are multiples of 12: a file of 65,532 bytes is written, one of
+ * 65,544 is refused. Without recordings and numbers the file has 12 bytes.
+ *
+ * Lists of any length are judged by these rules in full, and those with over 64 entries are refused slowly at worst: each id is
+ * compared with all earlier ones before 13 is said, which for 100,000 entries makes 5,000 million comparisons. */
+meskelow_written meskelow_write(const uint32_t *ids, size_t ids_len, const uint32_t *counts, size_t counts_len,
+                                const uint8_t *sets, size_t sets_len, const int32_t *numbers, size_t numbers_len,
+                                uint8_t *room, size_t room_len);
 
 enum {
     MESKELOW_LIST_ROOM = 65536 /* bytes, which hold every list */

@@ -14,6 +14,10 @@
         print(leak.test, leak.train, leak.pairs)
     print(found.touching, "pairs of recordings only touch")
 
+    kept = [r for r in meskelow.recordings(file) if r.set != meskelow.HELD_BACK]
+    with open("kept.footprint", "wb") as stream:
+        stream.write(meskelow.write(kept))
+
 What the rules refuse is raised as `Refused`, a ValueError that carries their number and place. So whatever a function
 returns is an answer.
 
@@ -26,12 +30,14 @@ thread has that, unless `threading.stack_size` or the system gave it less than 5
 
 A triangle is three vertices with two coordinates each, in lists, tuples or arrays such as numpy's. A coordinate is whatever Python
 takes for a float, and becomes one by Python's rules: a whole number may be rounded, and one that is beyond every float is an
-OverflowError. Text and complex numbers are a TypeError. A file is what lends its bytes: bytes, bytearray, memoryview, mmap or an
-array of any kind, by the bytes that it holds, in its order. A file's name is a TypeError.
+OverflowError. Text and complex numbers are a TypeError. Only `write` asks for whole centimetres, and takes no float for one. A file
+is what lends its bytes: bytes, bytearray, memoryview, mmap or an array of any kind, by the bytes that it holds, in its order. A
+file's name is a TypeError.
 """
 
 from __future__ import annotations
 
+import array
 import ctypes
 import enum
 import functools
@@ -43,7 +49,7 @@ import platform
 import re
 import struct
 import sys
-from typing import Dict, Iterator, NamedTuple, Sequence, SupportsIndex, Tuple, Union
+from typing import Dict, Iterable, Iterator, NamedTuple, Protocol, Sequence, SupportsIndex, Tuple, Type, Union
 
 ROOT = pathlib.Path(__file__).resolve().parent.parent
 ARCHIVE = ROOT / "target" / "staticlib" / "libmeskelow.a"
@@ -68,9 +74,11 @@ REFUSED_TABLE = 15
 REFUSED_SAME_ID = 16
 REFUSED_OUT_OF_RANGE = 17
 REFUSED_NO_AREA = 18
+REFUSED_FILE_ROOM = 19
 
 Bytes = Union[bytes, bytearray, memoryview]  # or whatever else has a buffer
 Triangle = Sequence[Sequence[float]]  # three (x, y)
+WholeTriangle = Sequence[Sequence[SupportsIndex]]  # the same in whole centimetres
 Flags = Tuple[bool, bool, bool]
 
 _LEAK = re.compile("test ([0-9]+) train ([0-9]+) pairs ([0-9]+)\n")
@@ -78,8 +86,9 @@ _LEAK = re.compile("test ([0-9]+) train ([0-9]+) pairs ([0-9]+)\n")
 
 class Refused(ValueError):
     """There is no answer. `number` is the rules' refusal, one of the numbers above: 1 to 5 of two triangles, 11 to 18 of a file, 10
-    of a recording that a good file does not have. (7 does not occur: a list gets all the room that it can need.) `place` is the
-    byte offset in the file that the refusal reports, or 0. The text has the words of refusals.tsv."""
+    of a recording that a good file does not have, 13 to 19 of recordings that are to be written. (7 does not occur: a list gets all
+    the room that it can need.) `place` is the byte offset in the file that the refusal reports, or 0; of what is to be written it is
+    0. The text has the words of refusals.tsv."""
 
     def __init__(self, number: int, place: int = 0) -> None:
         super().__init__(number, place)
@@ -127,6 +136,19 @@ class Recording(NamedTuple):
     first: int  # place of the first triangle
     last: int  # the entry's last byte
     triangles: Tuple[Tuple[Tuple[int, int], Tuple[int, int], Tuple[int, int]], ...]  # whole centimetres
+
+
+class Draft(Protocol):
+    """What `write` asks of a recording: a `Recording`, or any object that has these. If it has a `last` too, that has to be 0."""
+
+    @property
+    def id(self) -> SupportsIndex: ...
+
+    @property
+    def set(self) -> SupportsIndex: ...
+
+    @property
+    def triangles(self) -> Iterable[WholeTriangle]: ...
 
 
 class Leak(NamedTuple):
@@ -195,6 +217,41 @@ def recordings(file: Bytes) -> Iterator[Recording]:
     return (recording(lent, k) for k in range(count))
 
 
+def write(recordings: Iterable[Draft]) -> bytes:
+    """The footprint file with these recordings, in their order. `check` accepts it, and `recordings` of it gives them back; and
+    `write(recordings(file))` are the bytes of the file.
+
+    Each recording is taken by its id, set and triangles. Where it begins is the file's own, so `first` is not looked at. Ids, sets
+    and coordinates are whole numbers as indexes of lists are: True is 1, and 1.0 is a TypeError. An id that is not from 0 to
+    2^32 - 1 is an OverflowError. These errors are raised before anything is judged.
+
+    Raises `Refused` with place 0, for the first of these that applies: 15 for a triangle that is not three vertices with two
+    coordinates each; for recording after recording 14, which is one without triangles, a set over 2 or below 0 or a `last` that is
+    not 0, and 16, an id that an earlier one has; for triangle after triangle 17, a coordinate out of range, and 18, no area; 13 for
+    over 64 recordings; 19 for a file that would be longer than 65,536 bytes. Very many recordings take long: each id is compared with
+    all earlier ones before 13 is said."""
+    ids, counts, sets, coordinates = array.array("I"), array.array("I"), bytearray(), array.array("i")
+    whole = True
+    for draft in recordings:
+        ids.append(_id_of(draft))
+        sets.append(_set_of(draft))
+        count = 0
+        for triangle in draft.triangles:
+            if len(triangle) == 3 and all(len(vertex) == 2 for vertex in triangle):
+                coordinates.extend(_centimetres(c) for vertex in triangle for c in vertex)
+            else:
+                whole = False
+            count += 1
+        counts.append(count)
+    if not whole:
+        raise Refused(REFUSED_TABLE)
+    room = ctypes.create_string_buffer(65536)
+    of_recordings = (*_slice(ctypes.c_uint32, ids), *_slice(ctypes.c_uint32, counts), *_slice(ctypes.c_uint8, sets))
+    got = _library().meskelow_write(*of_recordings, *_slice(ctypes.c_int32, coordinates), room, len(room))
+    _raise_if_refused(got.number, got.place)
+    return room.raw[: got.length]
+
+
 def leaks(file: Bytes) -> LeakList:
     """The file's leak list. Raises `Refused`, 11 to 18. A thread needs 300 KB of stack for it (`threading.stack_size`)."""
     lent = _lent(file)
@@ -252,6 +309,10 @@ class _Entry(ctypes.Structure):
     _fields_ = [(name, ctypes.c_uint32) for name in ("number", "place", "id", "first", "count", "set", "last")]
 
 
+class _Written(ctypes.Structure):
+    _fields_ = [("number", ctypes.c_uint32), ("place", ctypes.c_uint32), ("length", ctypes.c_size_t)]
+
+
 class _List(ctypes.Structure):
     _fields_ = [
         ("number", ctypes.c_uint32),
@@ -263,11 +324,16 @@ class _List(ctypes.Structure):
 
 
 _DOUBLES = ctypes.POINTER(ctypes.c_double)
+_U32S, _U8S, _I32S = ctypes.POINTER(ctypes.c_uint32), ctypes.POINTER(ctypes.c_uint8), ctypes.POINTER(ctypes.c_int32)
 _FUNCTIONS = {
     "meskelow_intersect": (_Answer, [_DOUBLES, ctypes.c_size_t, _DOUBLES, ctypes.c_size_t]),
     "meskelow_decide": (_Decision, [_DOUBLES, ctypes.c_size_t]),
     "meskelow_check": (_Verdict, [ctypes.c_char_p, ctypes.c_size_t]),
     "meskelow_recording": (_Entry, [ctypes.c_char_p, ctypes.c_size_t, ctypes.c_size_t]),
+    "meskelow_write": (
+        _Written,
+        [word for pointer in (_U32S, _U32S, _U8S, _I32S, ctypes.c_char_p) for word in (pointer, ctypes.c_size_t)],
+    ),
     "meskelow_leaks": (_List, [ctypes.c_char_p, ctypes.c_size_t, ctypes.c_char_p, ctypes.c_size_t]),
 }
 
@@ -313,6 +379,29 @@ def _real(value: float) -> float:
     if isinstance(value, numbers.Complex) and not isinstance(value, numbers.Real):
         raise TypeError(f"a coordinate must be a real number, not {type(value).__name__}")
     return value
+
+
+def _id_of(draft: Draft) -> int:
+    identity = operator.index(draft.id)
+    if not 0 <= identity < 2**32:
+        raise OverflowError("an id must be from 0 to 4,294,967,295")
+    return identity
+
+
+def _set_of(draft: Draft) -> int:
+    """The set, if a byte has it and the recording has no other last byte than 0; else 255, which is refused as such a recording is."""
+    which, last = operator.index(draft.set), operator.index(getattr(draft, "last", 0))
+    return which if 0 <= which <= 255 and last == 0 else 255
+
+
+def _centimetres(value: SupportsIndex) -> int:
+    """The coordinate, if 32 bits have it; else the nearest that they have, which is out of range as well."""
+    return min(max(operator.index(value), -(2**31)), 2**31 - 1)
+
+
+def _slice(kind: Type[ctypes._SimpleCData], values: Union[array.array, bytearray]) -> Tuple[ctypes.Array, int]:
+    """The values as C has a list: where they stand, and how many they are."""
+    return (kind * len(values)).from_buffer(values), len(values)
 
 
 def _lent(file: Bytes) -> bytes:

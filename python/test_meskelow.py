@@ -1,5 +1,6 @@
 """Tests of meskelow.py with the library. What is expected was worked out by hand: the twelve cases and the example in docs/RULES.md
-and README.md. The night's list and an area that rounding makes are the second program's."""
+and README.md. The night's list and an area that rounding makes are the second program's. Files that are written must have the bytes
+that `footprint` packs."""
 
 import array
 import contextlib
@@ -11,6 +12,7 @@ import pathlib
 import pickle
 import struct
 import threading
+import types
 import unittest
 
 import meskelow
@@ -52,6 +54,11 @@ def footprint(*recordings):
         table += struct.pack("<IIHBB", identity, len(triangles), len(own), which, 0)
         triangles += b"".join(struct.pack("<6i", *(c for vertex in triangle for c in vertex)) for triangle in own)
     return triangles + table + struct.pack("<III", len(triangles), len(recordings), len(triangles) + len(table) + 12)
+
+
+def own(identity, which, triangles, **more):
+    """A recording to be written, of a user's own kind."""
+    return types.SimpleNamespace(id=identity, set=which, triangles=triangles, **more)
 
 
 def flags(text):
@@ -428,6 +435,221 @@ class Files(Case):
         self.assertEqual(texts, [(EXAMPLES / "night.expected").read_text()])
 
 
+class Writing(Case):
+    def test_bytes(self):
+        file = meskelow.write([own(7, meskelow.TRAINING, [V]), own(9, meskelow.TEST, [D])])
+        self.assertIs(type(file), bytes)
+        self.assertEqual(file, LEAK)
+        self.assertEqual(meskelow.write([]), EMPTY)
+
+    def test_every_field(self):
+        """Each byte of the table where it belongs: ids of four different bytes, places over 255 and 65,535, counts over 255."""
+        far = [(-1000000, 1000000), (1000000, -999999), (-65536, 65537)]
+        drafts = [(0x04030201, 0, [far] * 300), (0, 2, [V]), (0xFFFFFFFF, 1, [D, far] * 1200), (7, 1, [far])]
+        file = meskelow.write(own(*draft) for draft in drafts)
+        self.assertEqual(file, footprint(*drafts))
+        self.assertEqual([r.first for r in meskelow.recordings(file)], [0, 7200, 7224, 64824])
+
+    def test_the_very_bytes(self):
+        for name in ("leak", "night", "clean", "neighbours"):
+            file = (EXAMPLES / f"{name}.footprint").read_bytes()
+            with self.subTest(name=name):
+                self.assertEqual(meskelow.write(meskelow.recordings(file)), file)
+                self.assertEqual(meskelow.write(list(meskelow.recordings(file))), file)
+
+    def test_read_back(self):
+        """A part of the night in another order: everything comes back but the places, which are the new file's."""
+        night = list(meskelow.recordings((EXAMPLES / "night.footprint").read_bytes()))
+        kept = [r for r in reversed(night) if r.set != meskelow.HELD_BACK]
+        file = meskelow.write(kept)
+        self.assertIsNone(meskelow.check(file))
+        found = list(meskelow.recordings(file))
+        self.assertEqual([r._replace(first=0) for r in found], [r._replace(first=0) for r in kept])
+        self.assertNotEqual(found, kept)
+        self.assertEqual(meskelow.write(found), file)
+
+    def test_first_is_the_file_s_own(self):
+        one, other = meskelow.recordings(LEAK)
+        for first in (24, -1, 2**64, 1.5, None, "0"):
+            self.assertEqual(meskelow.write([one._replace(first=first), other._replace(first=first)]), LEAK)
+
+    def test_what_is_iterated(self):
+        """Whatever can be iterated over will do, and each is asked once."""
+        drafts = [own(7, 0, [V]), own(9, 1, [D])]
+        for recordings in (drafts, tuple(drafts), iter(drafts), (r for r in drafts), dict(enumerate(drafts)).values()):
+            self.assertEqual(meskelow.write(recordings), LEAK)
+        asked = []
+
+        def counted(things):
+            for thing in things:
+                asked.append(thing)
+                yield thing
+
+        given = counted([own(7, 0, counted([V])), own(9, 1, counted([D]))])
+        self.assertEqual(meskelow.write(given), LEAK)
+        self.assertEqual((len(asked), list(given)), (4, []))
+        for recordings in ((), iter(()), {}, meskelow.recordings(EMPTY)):
+            self.assertEqual(meskelow.write(recordings), EMPTY)
+
+    def test_kinds_of_triangles(self):
+        for u, v in [(tuple(D), tuple(V)), ([list(c) for c in D], [array.array("b", c) for c in V]), (Array(D), Array(V))]:
+            for kind in (list, tuple, iter):
+                self.assertEqual(meskelow.write([own(7, 0, kind([v])), own(9, 1, kind([u]))]), LEAK)
+        self.assertEqual(meskelow.write([own(7, 0, Array([V])), own(9, 1, Array([D]))]), LEAK)
+
+    def test_kinds_of_numbers(self):
+        u = [(Whole(1), True), (Whole(-3), Whole(1)), (1, Whole(-3))]
+        self.assertEqual(meskelow.write([own(Whole(7), False, [V], last=False), own(9, True, [u], last=Whole(0))]), LEAK)
+        for value in (1.0, 1.5, float("nan"), "1", b"1", None, 1j, (1,), [1], Scalar(1), fractions.Fraction(1), decimal.Decimal(1)):
+            for draft in (
+                own(value, 0, [V]),
+                own(7, value, [V]),
+                own(7, 0, [V], last=value),
+                own(7, 0, [[(value, 0), (4, 0), (0, 4)]]),
+                own(7, 0, [V, [(0, 0), (4, 0), (0, value)]]),
+            ):
+                with self.subTest(value=value), self.assertRaises(TypeError):
+                    meskelow.write([own(9, 3, []), draft])
+
+    def test_what_is_no_recording(self):
+        for recordings in (None, 1, 1.5, own(7, 0, [V])):
+            with self.subTest(recordings=recordings), self.assertRaises(TypeError):
+                meskelow.write(recordings)
+        for draft in (None, 7, "7", (7, 0, [V]), {"id": 7, "set": 0, "triangles": [V]}, types.SimpleNamespace(id=7, set=0)):
+            with self.subTest(draft=draft), self.assertRaises(AttributeError):
+                meskelow.write([draft])
+        for triangles in (None, 1, [1], [None], [[0, 0, 1]], [iter(V)], [[iter((0, 0)), (4, 0), (0, 4)]]):
+            with self.subTest(triangles=triangles), self.assertRaises(TypeError):
+                meskelow.write([own(7, 0, triangles)])
+
+    def test_ids(self):
+        for identity in (0, 1, 2**31 - 1, 2**31, 2**32 - 1):
+            self.assertEqual(meskelow.write([own(identity, 0, [V])]), footprint((identity, 0, [V])))
+        for identity in (-1, 2**32, 2**32 + 7, 2**64, -(2**31), -(2**32), 10**5000):
+            with self.assertRaises(OverflowError):
+                meskelow.write([own(9, 3, []), own(identity, 0, [V])])
+
+    def test_sets(self):
+        for which in (meskelow.TRAINING, meskelow.TEST, meskelow.HELD_BACK):
+            self.assertEqual(meskelow.write([own(7, which, [V])]), footprint((7, which, [V])))
+        for which in (3, 128, 255, 256, 257, 2**32, 2**64, 10**5000, -1, -254, -255, -256, -(2**64)):
+            with self.refused(14, 0):
+                meskelow.write([own(7, which, [V])])
+
+    def test_last(self):
+        self.assertEqual(meskelow.write([own(7, 0, [V], last=0), own(9, 1, [D], last=0)]), LEAK)
+        for last in (1, 2, 255, 256, 2**64, -1, -256):
+            for which in (0, 1, 2):
+                with self.refused(14, 0):
+                    meskelow.write([own(7, which, [V], last=last)])
+        with self.refused(16, 0):  # in its turn
+            meskelow.write([own(7, 0, [V]), own(7, 1, [D]), own(9, 1, [D], last=1)])
+
+    def test_coordinates(self):
+        """Those at the ends of the range are written; none beyond it is cut to one within."""
+        for value in (1000000, -1000000, 65536, -65537):
+            triangle = [(value, 0), (0, 4), (0, value)]
+            self.assertEqual(meskelow.write([own(7, 0, [triangle])]), footprint((7, 0, [triangle])))
+        for value in (1000001, 2**31 - 1, 2**31, 2**32, 2**32 + 4, 2**64, 10**5000):
+            for number in (value, -value):
+                for place in range(6):
+                    numbers = [0, 0, 4, 0, 0, 4]
+                    numbers[place] = number
+                    with self.refused(17, 0):
+                        meskelow.write([own(7, 0, [V, list(zip(numbers[::2], numbers[1::2]))])])
+
+    def test_no_area(self):
+        far, near = 1000000, 999999
+        for triangle in (
+            [(0, 0), (0, 0), (0, 0)],
+            [(0, 0), (1, 1), (2, 2)],
+            [(4, 4), (0, 4), (4, 4)],
+            [(-far, -far), (0, 0), (far, far)],
+        ):
+            with self.refused(18, 0):
+                meskelow.write([own(7, 0, [V, triangle])])
+        sliver = [(-far, -far), (0, 0), (far, near)]
+        self.assertEqual(meskelow.write([own(7, 0, [sliver])]), footprint((7, 0, [sliver])))
+
+    def test_broken_off(self):
+        """Also where two make up for each other: 12 numbers are not two triangles because of their number."""
+        four = V + [(1, 1)]
+        for triangle in (V[:2], four, [], [(0, 0), (4, 0), (0,)], [(0, 0), (4, 0), (0, 4, 0)], [(), (), ()], [0, 0, 4, 0, 0, 4]):
+            with self.subTest(triangle=triangle), self.refused(15, 0):
+                meskelow.write([own(7, 0, [V]), own(9, 1, [D, triangle])])
+        with self.refused(15, 0):
+            meskelow.write([own(7, 0, [V[:2], four])])
+
+    def test_how_many_recordings(self):
+        for count in (1, 63, 64):
+            drafts = [(i, i % 3, [V]) for i in range(count)]
+            self.assertEqual(meskelow.write(own(*draft) for draft in drafts), footprint(*drafts))
+        for count in (65, 66, 128, 256, 320, 1000):
+            with self.subTest(count=count), self.refused(13, 0):
+                meskelow.write(own(i, 0, [V]) for i in range(count))
+
+    def test_how_many_triangles(self):
+        """65,532 bytes are the most; lengths are multiples of 12."""
+
+        def drafted(recordings, triangles):
+            return [(7, 0, [V] * (triangles - recordings + 1)), *((i, 1, [D]) for i in range(100, 99 + recordings))]
+
+        for recordings, triangles, length in [(1, 2729, 65520), (2, 2729, 65532), (4, 2728, 65532), (64, 2698, 65532)]:
+            drafts = drafted(recordings, triangles)
+            file = meskelow.write(own(*draft) for draft in drafts)
+            self.assertEqual((file, len(file)), (footprint(*drafts), length))
+            self.assertIsNone(meskelow.check(file))
+        for recordings, triangles in [(1, 2730), (3, 2729), (64, 2699), (1, 65536)]:
+            with self.subTest(recordings=recordings, triangles=triangles), self.refused(19, 0):
+                meskelow.write(own(*draft) for draft in drafted(recordings, triangles))
+
+    def test_which_comes_first(self):
+        """A draft that is wrong in more and more ways; each is said before all those that were there already."""
+        flat, far = [(0, 0), (1, 1), (2, 2)], [(-(2**31), 0), (4, 0), (0, 4)]
+        drafts = [own(i, 0, [V] * 43, last=0) for i in range(64)]
+        with self.refused(19, 0):
+            meskelow.write(drafts)
+        drafts.append(own(64, 0, [V] * 43, last=0))
+
+        def triangle(i, k, value):
+            drafts[i].triangles[k] = value
+
+        def entry(i, **fields):
+            vars(drafts[i]).update(fields)
+
+        for number, make_wrong in [
+            (13, lambda: None),
+            (18, lambda: triangle(64, 42, flat)),
+            (17, lambda: triangle(64, 41, far)),
+            (18, lambda: triangle(64, 0, flat)),
+            (17, lambda: triangle(3, 42, far)),
+            (18, lambda: triangle(3, 41, flat)),
+            (17, lambda: triangle(3, 41, [(0, 0), (0, 0), (0, 1000001)])),
+            (16, lambda: entry(64, id=63)),
+            (14, lambda: entry(64, set=3)),
+            (16, lambda: entry(63, id=0)),
+            (14, lambda: entry(63, last=1)),
+            (16, lambda: entry(5, id=4)),
+            (14, lambda: entry(5, triangles=[])),
+            (16, lambda: entry(1, id=0)),
+            (14, lambda: entry(0, set=256)),
+            (15, lambda: triangle(64, 20, V[:2])),
+        ]:
+            make_wrong()
+            with self.subTest(number=number), self.refused(number, 0):
+                meskelow.write(drafts)
+        drafts[64].id = 2**32
+        with self.assertRaises(OverflowError):
+            meskelow.write(drafts)
+        drafts[0].set = None
+        with self.assertRaises(TypeError):
+            meskelow.write(drafts)
+
+    def test_leaks_of_what_was_written(self):
+        file = meskelow.write([own(7, meskelow.TRAINING, [V, V]), own(9, meskelow.TEST, [F, D]), own(3, meskelow.TEST, [F])])
+        self.assertEqual(meskelow.leaks(file), (((9, 7, 2),), "leaks 1\ntest 9 train 7 pairs 2\ntouching 1\n", 1))
+
+
 @unittest.skipIf(numpy is None, "there is no numpy here")
 class Numpy(Case):
     def test_triangles(self):
@@ -482,6 +704,21 @@ class Numpy(Case):
         with self.refused(12, 0):
             meskelow.check(file[:60])
 
+    def test_writing(self):
+        for kind in ("i8", "i4", "i1", ">i4", "O"):
+            u, v = numpy.array([D, V], dtype=kind)
+            drafts = [own(numpy.uint32(7), numpy.uint8(0), v.reshape(1, 3, 2)), own(numpy.int64(9), numpy.int8(1), [u])]
+            with self.subTest(kind=kind):
+                self.assertEqual(meskelow.write(drafts), LEAK)
+        for kind in ("f8", "f4", "c16", "U4"):
+            with self.subTest(kind=kind), self.assertRaises(TypeError):
+                meskelow.write([own(7, 0, numpy.array([V], dtype=kind))])
+        for shape in ((1, 2, 3), (1, 4, 2), (1, 3, 3), (1, 6), (2, 0)):
+            with self.subTest(shape=shape), self.refused(15, 0):
+                meskelow.write([own(7, 0, numpy.zeros(shape, dtype="i4"))])
+        with self.refused(17, 0):
+            meskelow.write([own(7, 0, numpy.array([[(2**32, 0), (4, 0), (0, 4)]]))])
+
     def test_indexes(self):
         for kind in (numpy.int64, numpy.uint8, numpy.int32):
             self.assertEqual(meskelow.recording(LEAK, kind(1)).id, 9)
@@ -504,6 +741,7 @@ class Errors(Case):
             (meskelow.REFUSED_FLAT_V, "V is flat"),
             (meskelow.REFUSED_STORED_LENGTH, "the length in the trailer is not the file's"),
             (meskelow.REFUSED_NO_AREA, "a triangle has no area"),
+            (meskelow.REFUSED_FILE_ROOM, "the room is shorter than the file to be written, or "),
             (6000, "a number that has no words here"),
         ]:
             self.assertTrue(str(meskelow.Refused(number, 24)).startswith(f"refused {number} at 24: {words}"))
@@ -532,6 +770,7 @@ class Errors(Case):
             self.says(text, meskelow.decide, A, V)
             self.says(text, meskelow.check, LEAK)
             self.says(text, meskelow.recording, LEAK, 0)
+            self.says(text, meskelow.write, [])
             self.says(text, meskelow.leaks, LEAK)
 
     def test_no_library(self):

@@ -4,7 +4,7 @@ use std::env;
 use std::path::PathBuf;
 
 /// Those that make cases are not among them: they must build where there is no library.
-const CALLERS: [&str; 5] = ["compare", "compare_files", "compare_leaks", "bench", "loop"];
+const CALLERS: [&str; 6] = ["compare", "compare_files", "compare_leaks", "compare_written", "bench", "loop"];
 
 fn main() {
     let package =

@@ -16,10 +16,10 @@ pub mod worked;
 use crate::random::Random;
 use damage as d;
 
-/// Its name, its weight, and how a file of it is made.
-pub struct Class(pub &'static str, pub usize, pub fn(&mut Random) -> Vec<u8>);
+/// Its name, its weight, and how one of it is made: a file, or what else a comparison draws.
+pub struct Class<T = Vec<u8>>(pub &'static str, pub usize, pub fn(&mut Random) -> T);
 
-impl Class {
+impl<T> Class<T> {
     pub fn name(&self) -> &'static str {
         self.0
     }
@@ -28,7 +28,9 @@ impl Class {
     fn weight(&self) -> usize {
         self.1
     }
+}
 
+impl Class {
     pub fn file(&self, random: &mut Random) -> Vec<u8> {
         (self.2)(random)
     }
@@ -83,7 +85,7 @@ pub fn draw(random: &mut Random) -> usize {
     draw_from(&CLASSES, random)
 }
 
-pub fn draw_from(classes: &[Class], random: &mut Random) -> usize {
+pub fn draw_from<T>(classes: &[Class<T>], random: &mut Random) -> usize {
     let total: usize = classes.iter().map(Class::weight).sum();
     let mut rest = random.below(total);
     for (index, class) in classes.iter().enumerate() {

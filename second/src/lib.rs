@@ -1,10 +1,11 @@
-//! The rules for triangles, pair decisions, footprint files and leak lists, written once more and apart
-//! from the proved crates, with inputs to compare the two by.
+//! The rules for triangles, pair decisions, footprint files, leak lists and the writing of files, written
+//! once more and apart from the proved crates, with inputs to compare the two by.
 
 pub mod case;
 pub mod classes;
 pub mod coverage;
 pub mod decision;
+pub mod drafts;
 pub mod exact;
 pub mod files;
 pub mod footprint;
@@ -17,3 +18,4 @@ pub mod random;
 pub mod tally;
 pub mod triangles;
 pub mod workloads;
+pub mod writer;

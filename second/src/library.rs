@@ -3,6 +3,7 @@
 use crate::decision::Decision;
 use crate::footprint::{Entry, Verdict};
 use crate::leaks::List;
+use crate::writer::{Handed, Written};
 
 /// As the library hands it back. Flags stay bytes until somebody has looked at them, because a
 /// byte other than 0 or 1 is no bool.
@@ -24,6 +25,18 @@ extern "C" {
     fn meskelow_check(file: *const u8, file_len: usize) -> Verdict;
     fn meskelow_recording(file: *const u8, file_len: usize, k: usize) -> Entry;
     fn meskelow_leaks(file: *const u8, file_len: usize, room: *mut u8, room_len: usize) -> List;
+    fn meskelow_write(
+        ids: *const u32,
+        ids_len: usize,
+        counts: *const u32,
+        counts_len: usize,
+        sets: *const u8,
+        sets_len: usize,
+        numbers: *const i32,
+        numbers_len: usize,
+        room: *mut u8,
+        room_len: usize,
+    ) -> Written;
 }
 
 #[inline]
@@ -81,4 +94,43 @@ pub fn leaks(file: &[u8], room: &mut [u8]) -> List {
 /// As for `check_at`, and the same for the room, which may be written to. The two do not overlap.
 pub unsafe fn leaks_at(file: *const u8, file_len: usize, room: *mut u8, room_len: usize) -> List {
     meskelow_leaks(file, file_len, room, room_len)
+}
+
+/// Where a list begins, and its length.
+pub type At<T> = (*const T, usize);
+
+fn at<T>(list: &[T]) -> At<T> {
+    (list.as_ptr(), list.len())
+}
+
+/// NULL for an empty list.
+fn at_or_null<T>(list: &[T]) -> At<T> {
+    (if list.is_empty() { std::ptr::null() } else { list.as_ptr() }, list.len())
+}
+
+pub fn write(handed: Handed, room: &mut [u8]) -> Written {
+    let Handed { ids, counts, sets, numbers } = handed;
+    // True slices, and the one that is written to overlaps no other.
+    unsafe { write_at(at(ids), at(counts), at(sets), at(numbers), room.as_mut_ptr(), room.len()) }
+}
+
+/// The same with NULL in the place of each list that is empty, and of an empty room.
+pub fn write_with_null(handed: Handed, room: &mut [u8]) -> Written {
+    let Handed { ids, counts, sets, numbers } = handed;
+    let output = if room.is_empty() { std::ptr::null_mut() } else { room.as_mut_ptr() };
+    let (ids, counts) = (at_or_null(ids), at_or_null(counts));
+    unsafe { write_at(ids, counts, at_or_null(sets), at_or_null(numbers), output, room.len()) }
+}
+
+/// # Safety
+/// As for `leaks_at`, and lists of larger numbers begin where C allows such numbers to stand.
+pub unsafe fn write_at(
+    ids: At<u32>,
+    counts: At<u32>,
+    sets: At<u8>,
+    numbers: At<i32>,
+    room: *mut u8,
+    room_len: usize,
+) -> Written {
+    meskelow_write(ids.0, ids.1, counts.0, counts.1, sets.0, sets.1, numbers.0, numbers.1, room, room_len)
 }

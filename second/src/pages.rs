@@ -1,10 +1,10 @@
-//! Memory to lend a file or a room from, between pages that nobody may touch.
+//! Memory to lend a file, a list or a room from, between pages that nobody may touch.
 
 use std::os::raw::{c_int, c_void};
 
 use crate::random::Random;
 
-/// Enough for the longest file and room of a comparison. All sizes here suit any size of a page.
+/// Enough for the longest file and for the rooms of most comparisons. All sizes here suit any size of a page.
 const ROOM: usize = 1 << 20;
 const WALL: usize = 1 << 16;
 /// How many bytes on either side of what is lent are looked at, as far as there are any.
@@ -35,9 +35,10 @@ fn walled(length: usize) -> *mut u8 {
 /// Kept for the whole run.
 pub struct Pages {
     start: *mut u8,
+    length: usize,
 }
 
-/// A file or a room lent by pointer, as a C program would.
+/// A file, a list or a room lent by pointer, as a C program would.
 pub struct Lent<'a> {
     pub start: *mut u8,
     area: &'a Pages,
@@ -47,19 +48,30 @@ pub struct Lent<'a> {
 
 impl Default for Pages {
     fn default() -> Self {
-        Pages { start: walled(ROOM) }
+        Pages::of(1)
     }
 }
 
 impl Pages {
+    /// So many times as much as by default.
+    pub fn of(times: usize) -> Self {
+        Pages { start: walled(times * ROOM), length: times * ROOM }
+    }
+
     /// Against the wall behind it or the one before it, or between guards at any address.
     pub fn lend(&mut self, contents: &[u8], random: &mut Random) -> Lent<'_> {
-        let length = contents.len();
-        assert!(length + 4 * GUARD <= ROOM);
+        self.lend_list(contents, random)
+    }
+
+    /// The same for a list of whole numbers, which C wants at a multiple of their size.
+    pub fn lend_list<T: Copy + Into<i64>>(&mut self, list: &[T], random: &mut Random) -> Lent<'_> {
+        let contents = bytes_of(list);
+        let (length, size) = (contents.len(), std::mem::size_of::<T>());
+        assert!(length + 4 * GUARD <= self.length);
         let place = match random.below(4) {
-            0 | 1 => ROOM - length,
+            0 | 1 => self.length - length,
             2 => 0,
-            _ => GUARD + random.below(GUARD),
+            _ => GUARD + random.below(GUARD) / size * size,
         };
         let lent = Lent { start: self.start.wrapping_add(place), area: self, place, length };
         let (from, to) = lent.guarded();
@@ -77,7 +89,7 @@ impl Pages {
 impl Lent<'_> {
     /// From where to where there are guards, what is lent between them.
     fn guarded(&self) -> (usize, usize) {
-        (self.place.saturating_sub(GUARD), (self.place + self.length + GUARD).min(ROOM))
+        (self.place.saturating_sub(GUARD), (self.place + self.length + GUARD).min(self.area.length))
     }
 
     fn bytes(&self, from: usize, to: usize) -> &[u8] {
@@ -89,8 +101,8 @@ impl Lent<'_> {
         self.bytes(self.place, self.place + self.length)
     }
 
-    pub fn holds(&self, expected: &[u8]) -> bool {
-        self.contents() == expected
+    pub fn holds<T: Copy + Into<i64>>(&self, expected: &[T]) -> bool {
+        self.contents() == bytes_of(expected)
     }
 
     pub fn has_its_guards(&self) -> bool {
@@ -99,6 +111,12 @@ impl Lent<'_> {
         let as_made = |from, to| self.bytes(from, to).iter().zip(from..).all(|(byte, k)| *byte == guard(k));
         as_made(from, self.place) && as_made(end, to)
     }
+}
+
+/// A list as it stands in memory.
+fn bytes_of<T: Copy + Into<i64>>(list: &[T]) -> &[u8] {
+    // Whole numbers have no bytes but their own, and every byte is one.
+    unsafe { std::slice::from_raw_parts(list.as_ptr().cast(), std::mem::size_of_val(list)) }
 }
 
 /// No two neighbours alike, and no zeros.

@@ -1,7 +1,9 @@
-//! Pairs to measure time with, in whole centimetres as a footprint file has them, and such files.
+//! Pairs to measure time with, in whole centimetres as a footprint file has them, and such files to read and
+//! to write.
 
 use crate::case::{point, Pair};
 use crate::classes::ordinary;
+use crate::drafts;
 use crate::files::draft::Draft;
 use crate::files::good;
 use crate::footprint::stored::{TEST, TRAINING};
@@ -9,14 +11,16 @@ use crate::footprint::{Verdict, MOST_RECORDINGS};
 use crate::leaks::List;
 use crate::random::Random;
 use crate::triangles::numbers::Point;
+use crate::writer::Written;
 
 pub type Values = [f64; 12];
 type Triangle = [Point; 3];
 
 const SEED: u64 = 77;
 pub const NAMES: [&str; 3] = ["random", "strips", "far"];
-/// The workloads that are files: one to judge, and one to list the leaks of.
+/// The workloads that are files: one to judge, the same one to write, and one to list the leaks of.
 pub const FILE: &str = "file";
+pub const WRITE: &str = "write";
 pub const LEAKS: &str = "leaks";
 /// Recordings of either set in the file with leaks; more of them would not fit.
 pub const MOST_TRACKS: usize = 28;
@@ -64,11 +68,26 @@ pub fn fold_list(sum: u64, list: List) -> u64 {
     numbers.iter().fold(sum, |sum, number| sum.rotate_left(7) ^ u64::from(*number).wrapping_add(1))
 }
 
+#[inline]
+pub fn fold_written(sum: u64, written: Written) -> u64 {
+    let numbers = [written.number, written.place, written.length as u32];
+    numbers.iter().fold(sum, |sum, number| sum.rotate_left(7) ^ u64::from(*number).wrapping_add(1))
+}
+
 /// A good file of the most recordings and then of the most triangles.
 pub fn largest_file() -> Vec<u8> {
+    largest().bytes()
+}
+
+/// The lists that it is written from.
+pub fn largest_draft() -> drafts::draft::Draft {
+    largest().into()
+}
+
+fn largest() -> Draft {
     let recordings = MOST_RECORDINGS as usize;
     let mut random = Random::new(SEED);
-    good::filled(&mut random, recordings, good::most_triangles(recordings), good::anywhere).bytes()
+    good::filled(&mut random, recordings, good::most_triangles(recordings), good::anywhere)
 }
 
 /// Triangle pairs of the file with so many recordings of either set.
@@ -172,13 +191,22 @@ fn near(u: &Triangle, v: &Triangle) -> bool {
 #[cfg(test)]
 mod tests {
     use super::*;
-    use crate::footprint::judge;
+    use crate::footprint::{judge, MOST_BYTES};
     use crate::leaks::whole_list;
+    use crate::writer::write;
 
     #[test]
     fn the_largest_file_is_good() {
         let file = largest_file();
         assert_eq!((file.len(), judge(&file)), (65_532, Verdict::default()));
+    }
+
+    #[test]
+    fn the_largest_file_is_written() {
+        let mut room = [46; MOST_BYTES];
+        let written = write(largest_draft().handed(), &mut room);
+        assert_eq!(written, Written { number: 0, place: 0, length: 65_532 });
+        assert_eq!((&room[..65_532], &room[65_532..]), (&largest_file()[..], &[46; 4][..]));
     }
 
     #[test]

@@ -6,3 +6,4 @@ pub mod Same
 pub mod First
 pub mod OneAnswer
 pub mod Sums
+pub mod Turns

@@ -4,3 +4,4 @@ pub mod Numbers
 pub mod Way
 pub mod Whole
 pub mod OneAnswer
+pub mod Turns

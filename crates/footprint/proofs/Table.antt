@@ -9,10 +9,11 @@ use lib.ListN.{take, drop}
 use lib.Dec.{eqb, ltb}
 use borrow.Author.Tests.{eq-eqb, ne-eqb, eqb-true}
 use Rattle.floats.specs.Lists.{any}
+use Rattle.floats.specs.Turns.{inTurn}
 use Rattle.layout.specs.Bytes.{u32At}
 use Rattle.layout.specs.Parts.{tablePlace, countOf, entryFrom, entryPlace, entryAt, partEnd, endBefore}
 use Rattle.layout.specs.Rules.{isBadEntry, isSeen, entryRule}
-use Rattle.layout.specs.Verdict.{badEntry, idAgain, wrongEnd, idsBefore, test, placeOf, inTurn, firstOf, numberAt, good}
+use Rattle.layout.specs.Verdict.{badEntry, idAgain, wrongEnd, idsBefore, test, placeOf, firstOf, numberAt, good}
 use Rattle.layout.specs.Stages.{tableRows, entryNumber}
 use Rattle.layout.specs.declared.Entry.{Entry}
 use Rattle.layout.proofs.Slices.{four-part, entry-part}

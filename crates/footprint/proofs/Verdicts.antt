@@ -8,9 +8,10 @@ use native.Mathlib.Nat.{add-zero}
 use lib.Dec.{ltb, eqb}
 use lib.ListN.{length, take, drop}
 use borrow.Author.Tests.{ltb-false, eqb-true, not-false}
+use Rattle.floats.specs.Turns.{inTurn}
 use Rattle.layout.specs.Bytes.{signed, u32At}
 use Rattle.layout.specs.Parts.{triangleOf, tablePlace, countOf, storedLength, triangleFrom, triangleAt, trianglesOf}
-use Rattle.layout.specs.Verdict.{outOfRange, flat, inTurn, test, placeOf, firstOf, numberAt, good, verdict}
+use Rattle.layout.specs.Verdict.{outOfRange, flat, test, placeOf, firstOf, numberAt, good, verdict}
 use Rattle.layout.specs.Rules.{isBadLength, isOtherLength, isBadTrailer, triangleRule}
 use Rattle.layout.specs.declared.Verdict.{Verdict}
 use Rattle.layout.specs.Stages.{trailerRows, tableRows, triangleRows, triangleNumber}

@@ -24,7 +24,7 @@ same a b h = go (eqb a b) refl
     go true e = eqb-true a b e
     go false e = absurd (h (eqb-false a b e))
 
-at-most : (a b : ℕ) → (b < a → ⊥) → a ≤ b
+pub at-most : (a b : ℕ) → (b < a → ⊥) → a ≤ b
 at-most a b h = go (ltb b a) refl
   where
     go : (t : Bool) → ltb b a ≡ t → a ≤ b

@@ -80,7 +80,7 @@ parts-inside file k l h = inside-is file l k h
 
 -- ---- the parts together
 module _ (file : List ℕ) (l : Layout file) where
-  starts : (i : ℕ) → i < countOf file → entryAt file i .first ≡ endBefore file i
+  pub starts : (i : ℕ) → i < countOf file → entryAt file i .first ≡ endBefore file i
   unfolding endBefore
   starts zero h = l .fromStart h
   starts (suc i) h = let q : i + 1 ≡ suc i = omega arith in subst (λ n. entryAt file n .first ≡ partEnd (entryAt file i)) q (l .endToEnd i (omega arith))
@@ -94,7 +94,7 @@ module _ (file : List ℕ) (l : Layout file) where
       ap₂ _++_ (up-to n (omega arith) ∙ ap (λ m. take m file) (sym f)) (there-is file n (is-good file l) (omega arith) .1)
       ∙ sym (take-add (e .first) (24 * e .count) file)
 
-  end-at : (n : ℕ) → n ≡ countOf file → endBefore file n ≡ tablePlace file
+  pub end-at : (n : ℕ) → n ≡ countOf file → endBefore file n ≡ tablePlace file
   unfolding endBefore
   end-at zero q = sym (l .noneNoTriangles (sym q))
   end-at (suc n) q = l .toTable n (omega arith)

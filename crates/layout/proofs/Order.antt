@@ -1,71 +1,15 @@
 -- The list of rows holds exactly the rows that there are, in their order. Assumes nothing.
-use Prim.Native.Nat.{ℕ, zero, suc, _+_, _*_, _<_, _≤_}
-use mathlib.Core.Path.{_≡_, refl, sym, ap, subst}
+use Prim.Native.Nat.{ℕ, _+_, _*_, _<_, _≤_}
+use mathlib.Core.Path.{_≡_, refl, sym, subst}
 use mathlib.Core.Logic.{_⊎_, inl, inr, ⊎-elim}
-use mathlib.Core.Bool.{true}
 use mathlib.Core.List.{List, [], _∷_, _++_, List·Memᴰ, List·Memᴰ·head as here, List·Memᴰ·tail as there, List·Memᴰ·cases-cons, List·Memᴰ·not-nil, Memᴰ·append-left, Memᴰ·append-right, List·Memᴰ·append-cases, append-nil}
 use native.Mathlib.Omega.{arith}
-use native.Mathlib.Nat.{eq-or-lt-of-le}
-use lib.Dec.{T}
+use Rattle.floats.specs.Turns.{inTurn}
+use Rattle.floats.proofs.Turns.{turn-listed, turn-members, Sorted, turn-sorted, turn-stage}
 use Rattle.layout.specs.Parts.{tablePlace, countOf, trianglesOf}
-use Rattle.layout.specs.Verdict.{Row, badLength, otherLength, badTrailer, badEntry, idAgain, wrongEnd, outOfRange, flat, inTurn, rows}
-use Rattle.layout.specs.Rows.{stageOf, turnOf, Earlier}
+use Rattle.layout.specs.Verdict.{Row, badLength, otherLength, badTrailer, badEntry, idAgain, wrongEnd, outOfRange, flat, rows}
+use Rattle.layout.specs.Rows.{stageOf, turnOf}
 use Rattle.layout.proofs.Tests.{Exists}
-
--- ---- rows in turn
--- a row comes after a stage and a turn
-abbrev After : ℕ → ℕ → Row → Type 0
-After stage turn row = (stage < stageOf row) ⊎ ((stage ≡ stageOf row) × (turn < turnOf row))
-
--- each row comes before all that stand behind it
-abbrev Sorted : List Row → Type 0
-Sorted [] = T true
-Sorted (row ∷ behind) = ((e : Row) → List·Memᴰ e behind → Earlier row e) × Sorted behind
-
-module _ (first second : ℕ → Row) where
-  turn-listed : (m i j : ℕ) → i ≤ j → j < i + m → List·Memᴰ (first j) (inTurn first second m i) × List·Memᴰ (second j) (inTurn first second m i)
-  unfolding inTurn
-  turn-listed zero i j p q = absurd (omega arith)
-  turn-listed (suc m) i j p q = ⊎-elim
-      (λ (e : i ≡ j). (here (ap first (sym e)), there (here (ap second (sym e)))))
-      (λ (l : i < j). let w = turn-listed m (i + 1) j (omega arith) (omega arith) in (there (there (w .0)), there (there (w .1))))
-      (eq-or-lt-of-le p)
-
-  turn-members : (m i : ℕ) (P : Row → Type 0) → ((j : ℕ) → i ≤ j → j < i + m → P (first j) × P (second j)) → (row : Row) → List·Memᴰ row (inTurn first second m i) → P row
-  unfolding inTurn
-  turn-members zero i P h row m = absurd (List·Memᴰ·not-nil m)
-  turn-members (suc n) i P h row m = go (List·Memᴰ·cases-cons m) (turn-members n (i + 1) P (λ j p q. h j (omega arith) (omega arith)) row)
-    where
-      go : (row ≡ first i) ⊎ List·Memᴰ row (second i ∷ inTurn first second n (i + 1)) → (List·Memᴰ row (inTurn first second n (i + 1)) → P row) → P row
-      go (inl q) rest = subst P (sym q) (h i (omega arith) (omega arith) .0)
-      go (inr k) rest = ⊎-elim (λ q. subst P (sym q) (h i (omega arith) (omega arith) .1)) rest (List·Memᴰ·cases-cons k)
-
-  -- their stage, and the turns of both
-  module _ (stage : ℕ) (f : (i : ℕ) → (stageOf (first i) ≡ stage) × (turnOf (first i) ≡ 2 * i)) (s : (i : ℕ) → (stageOf (second i) ≡ stage) × (turnOf (second i) ≡ 2 * i + 1)) where
-    turn-after : (m i t : ℕ) → t < 2 * i → (row : Row) → List·Memᴰ row (inTurn first second m i) → After stage t row
-    turn-after m i t l = turn-members m i (After stage t) (λ j p q. (inr (sym (f j .0), omega (arith, f j .1)), inr (sym (s j .0), omega (arith, s j .1))))
-
-    later : (m i t : ℕ) (rest : List Row) → ((e : Row) → List·Memᴰ e rest → stage < stageOf e) → t < 2 * i → (row : Row) → List·Memᴰ row (inTurn first second m i ++ rest) → After stage t row
-    later m i t rest h l row k = ⊎-elim (turn-after m i t l row) (λ w. inl (h row w)) (List·Memᴰ·append-cases (inTurn first second m i) k)
-
-    as-before : (a row : Row) (t : ℕ) → stageOf a ≡ stage → turnOf a ≡ t → After stage t row → Earlier a row
-    as-before a row t p q w = subst (λ x. After x (turnOf a) row) (sym p) (subst (λ x. After stage x row) (sym q) w)
-
-    turn-sorted : (m i : ℕ) (rest : List Row) → ((e : Row) → List·Memᴰ e rest → stage < stageOf e) → Sorted rest → Sorted (inTurn first second m i ++ rest)
-    unfolding inTurn
-    turn-sorted zero i rest h srt = srt
-    turn-sorted (suc m) i rest h srt =
-        let behind = later m (i + 1) (2 * i + 1) rest h (omega arith) in
-        let ours : Earlier (first i) (second i) = as-before (first i) (second i) (2 * i) (f i .0) (f i .1) (inr (sym (s i .0), omega (arith, s i .1))) in (
-          (λ e k. ⊎-elim
-              (λ (q : e ≡ second i). subst (Earlier (first i)) (sym q) ours)
-              (λ w. as-before (first i) e (2 * i) (f i .0) (f i .1) (later m (i + 1) (2 * i) rest h (omega arith) e w))
-              (List·Memᴰ·cases-cons k)),
-          (
-            (λ e k. as-before (second i) e (2 * i + 1) (s i .0) (s i .1) (behind e k)),
-            turn-sorted m (i + 1) rest h srt,
-          ),
-        )
 
 -- ---- the rows of a file
 module _ (file : List ℕ) where
@@ -150,11 +94,11 @@ module _ (file : List ℕ) where
   -- in their order
   triangle-stage : (e : Row) → List·Memᴰ e triangles → stageOf e ≡ 5
   unfolding triangles
-  triangle-stage = turn-members outOfRange flat (trianglesOf file) 0 (λ row. stageOf row ≡ 5) (λ j p q. (refl, refl))
+  triangle-stage = turn-stage stageOf turnOf outOfRange flat 5 (λ i. (refl, refl)) (λ i. (refl, refl)) (trianglesOf file) 0
 
   entry-stage : (e : Row) → List·Memᴰ e entries → stageOf e ≡ 3
   unfolding entries
-  entry-stage = turn-members badEntry idAgain (countOf file) 0 (λ row. stageOf row ≡ 3) (λ j p q. (refl, refl))
+  entry-stage = turn-stage stageOf turnOf badEntry idAgain 3 (λ i. (refl, refl)) (λ i. (refl, refl)) (countOf file) 0
 
   tail-late : (e : Row) → List·Memᴰ e (wrongEnd ∷ triangles) → 3 < stageOf e
   tail-late e k = ⊎-elim (λ (q : e ≡ wrongEnd). subst (λ r. 3 < stageOf r) (sym q) (omega arith)) (λ w. let q = triangle-stage e w in omega arith) (List·Memᴰ·cases-cons k)
@@ -165,29 +109,21 @@ module _ (file : List ℕ) where
   late : (e a : Row) (m : ℕ) {behind : List Row} → m < stageOf a → List·Memᴰ e (a ∷ behind) → (List·Memᴰ e behind → m < stageOf e) → m < stageOf e
   late e a m h k rest = ⊎-elim (λ (q : e ≡ a). subst (λ r. m < stageOf r) (sym q) h) rest (List·Memᴰ·cases-cons k)
 
-  tail-sorted : Sorted (wrongEnd ∷ triangles)
+  tail-sorted : Sorted stageOf turnOf (wrongEnd ∷ triangles)
   unfolding triangles
   tail-sorted = ((λ e k. let q = triangle-stage e k in inl (omega arith)), end)
     where
-      end : Sorted triangles
-      end = subst Sorted (append-nil triangles) (turn-sorted outOfRange flat 5 (λ i. (refl, refl)) (λ i. (refl, refl)) (trianglesOf file) 0 [] (λ e k. absurd (List·Memᴰ·not-nil k)) tt)
+      end : Sorted stageOf turnOf triangles
+      end = subst (Sorted stageOf turnOf) (append-nil triangles) (turn-sorted stageOf turnOf outOfRange flat 5 (λ i. (refl, refl)) (λ i. (refl, refl)) (trianglesOf file) 0 [] (λ e k. absurd (List·Memᴰ·not-nil k)) tt)
 
-  sorted : Sorted (rows file)
+  pub sorted : Sorted stageOf turnOf (rows file)
   sorted = rw is-rows (
     (λ e k. inl (late e otherLength 0 (omega arith) k (λ k1. late e badTrailer 0 (omega arith) k1 (λ k2. let q = rest-late e k2 in omega arith)))),
     (
       (λ e k. inl (late e badTrailer 1 (omega arith) k (λ k2. let q = rest-late e k2 in omega arith))),
       (
         (λ e k. inl (rest-late e k)),
-        (unfold entries in turn-sorted badEntry idAgain 3 (λ i. (refl, refl)) (λ i. (refl, refl)) (countOf file) 0 (wrongEnd ∷ triangles) tail-late tail-sorted),
+        (unfold entries in turn-sorted stageOf turnOf badEntry idAgain 3 (λ i. (refl, refl)) (λ i. (refl, refl)) (countOf file) 0 (wrongEnd ∷ triangles) tail-late tail-sorted),
       ),
     ),
   )
-
--- what stands behind a row of a sorted list comes after it
-behind : (before : List Row) (row : Row) (after : List Row) → Sorted (before ++ (row ∷ after)) → (e : Row) → List·Memᴰ e after → Earlier row e
-behind [] row after s e k = s .0 e k
-behind (x ∷ xs) row after s e k = behind xs row after (s .1) e k
-
-pub not-after : (file : List ℕ) (before : List Row) (row : Row) (after : List Row) → rows file ≡ before ++ (row ∷ after) → (e : Row) → List·Memᴰ e after → Earlier row e
-not-after file before row after split e k = behind before row after (subst Sorted split (sorted file)) e k

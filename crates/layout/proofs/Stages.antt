@@ -5,9 +5,10 @@ use mathlib.Core.Bool.{Bool, true, false, cond}
 use mathlib.Core.List.{List, [], _∷_, _++_}
 use native.Mathlib.Omega.{arith}
 use borrow.Author.Tests.{eq-eqb, ne-eqb}
+use Rattle.floats.specs.Turns.{inTurn}
 use Rattle.layout.specs.Parts.{countOf, entryPlace, trianglePlace}
 use Rattle.layout.specs.Rules.{entryRule, triangleRule}
-use Rattle.layout.specs.Verdict.{Row, badEntry, idAgain, wrongEnd, outOfRange, flat, numberOf, placeOf, test, inTurn, rows, firstOf, numberAt, verdict}
+use Rattle.layout.specs.Verdict.{Row, badEntry, idAgain, wrongEnd, outOfRange, flat, numberOf, placeOf, test, rows, firstOf, numberAt, verdict}
 use Rattle.layout.specs.Stages.{orElse, atOr, trailerRows, tableRows, triangleRows, entryNumber, triangleNumber, ByRules}
 use Rattle.layout.specs.declared.Verdict.{Verdict}
 use Rattle.layout.proofs.Tests.{nonzero}

@@ -36,16 +36,16 @@ nonzero row e = omega (arith, in-table row .0)
 abbrev pub Tells : Bool → Type 0 → Type 0
 Tells b P = (b ≡ true) ↔ P
 
-less : (a b : ℕ) → Tells (ltb a b) (a < b)
+pub less : (a b : ℕ) → Tells (ltb a b) (a < b)
 less a b = (ltb-true a b, lt-ltb a b)
 
 same : (a b : ℕ) → Tells (eqb a b) (a ≡ b)
 same a b = (eqb-true a b, eq-eqb a b)
 
-other : (a b : ℕ) → Tells (not (eqb a b)) (a ≡ b → ⊥)
+pub other : (a b : ℕ) → Tells (not (eqb a b)) (a ≡ b → ⊥)
 other a b = ((λ h. eqb-false a b (not-true (eqb a b) h)), (λ h. ap not (ne-eqb a b h)))
 
-either : {a b : Bool} {A B : Type 0} → Tells a A → Tells b B → Tells (a || b) (A ⊎ B)
+pub either : {a b : Bool} {A B : Type 0} → Tells a A → Tells b B → Tells (a || b) (A ⊎ B)
 either {a} {b} {A} {B} p q = (to a refl, from)
   where
     to : (x : Bool) → a ≡ x → (x || b) ≡ true → A ⊎ B
@@ -55,6 +55,13 @@ either {a} {b} {A} {B} p q = (to a refl, from)
     from : A ⊎ B → (a || b) ≡ true
     from (inl h) = rw (p .1 h) refl
     from (inr h) = rw (q .1 h) (or-true a)
+
+-- of something that there is, or of a row that there always is
+pub both : {b : Bool} {E P : Type 0} → Tells b P → (E × (b ≡ true)) ↔ (E × P)
+both t = ((λ w. (w .0, t .0 (w .1))), (λ w. (w .0, t .1 (w .1))))
+
+pub only : {b : Bool} {P : Type 0} → Tells b P → (T true × (b ≡ true)) ↔ P
+only t = ((λ w. t .0 (w .1)), (λ p. (tt, t .1 p)))
 
 -- one of a list passes
 abbrev One : {A : Type 0} → (A → Bool) → List A → Type 0
@@ -107,31 +114,34 @@ pub flat-test : (t : Triangle) → Tells (isFlat t) (Flat t)
 unfolding isFlat
 flat-test t = nought (twiceArea t)
 
--- ---- the tests of a file
-module _ (file : List ℕ) where
-  -- the ids before entry i are those of entries with a lower number
-  id-at : (i j : ℕ) → j < i → List·Memᴰ (entryAt file j .id) (idsBefore file i)
-  unfolding idsBefore
+-- ---- ids that were seen: `before i` has those with a lower number, the latest first
+module _ (idOf : ℕ → ℕ) (before : ℕ → List ℕ) (none : before 0 ≡ []) (next : (i : ℕ) → before (suc i) ≡ idOf i ∷ before i) where
+  id-at : (i j : ℕ) → j < i → List·Memᴰ (idOf j) (before i)
   id-at zero j h = absurd (omega arith)
   id-at (suc i) j h = let le : j ≤ i = omega arith in
-      ⊎-elim (λ (q : j ≡ i). here (ap (λ n. entryAt file n .id) q)) (λ (l : j < i). there (id-at i j l)) (eq-or-lt-of-le le)
+      subst (List·Memᴰ (idOf j)) (sym (next i)) (⊎-elim (λ (q : j ≡ i). here (ap idOf q)) (λ (l : j < i). there (id-at i j l)) (eq-or-lt-of-le le))
 
-  at-id : (i : ℕ) {id : ℕ} → List·Memᴰ id (idsBefore file i) → (j : ℕ) × (j < i) × (entryAt file j .id ≡ id)
-  unfolding idsBefore
-  at-id zero m = absurd (List·Memᴰ·not-nil m)
-  at-id (suc i) {id} m = go (List·Memᴰ·cases-cons m) (at-id i)
+  at-id : (i : ℕ) {id : ℕ} → List·Memᴰ id (before i) → (j : ℕ) × (j < i) × (idOf j ≡ id)
+  at-id zero {id} m = absurd (List·Memᴰ·not-nil (subst (List·Memᴰ id) none m))
+  at-id (suc i) {id} m = go (List·Memᴰ·cases-cons (subst (List·Memᴰ id) (next i) m)) (at-id i)
     where
-      go : (id ≡ entryAt file i .id) ⊎ List·Memᴰ id (idsBefore file i) → (List·Memᴰ id (idsBefore file i) → (j : ℕ) × (j < i) × (entryAt file j .id ≡ id)) → (j : ℕ) × (j < suc i) × (entryAt file j .id ≡ id)
+      go : (id ≡ idOf i) ⊎ List·Memᴰ id (before i) → (List·Memᴰ id (before i) → (j : ℕ) × (j < i) × (idOf j ≡ id)) → (j : ℕ) × (j < suc i) × (idOf j ≡ id)
       go (inl q) rest = (i, omega arith, sym q)
       go (inr k) rest = let w = rest k in let l = w .1 in (w .0, omega arith, w .2)
 
-  seen-test : (i id : ℕ) → Tells (isSeen id (idsBefore file i)) ((j : ℕ) × (j < i) × (entryAt file j .id ≡ id))
+  pub seen-test : (i id : ℕ) → Tells (isSeen id (before i)) ((j : ℕ) × (j < i) × (idOf j ≡ id))
   unfolding isSeen
   seen-test i id =
-      let w = some (eqb id) (idsBefore file i) in (
+      let w = some (eqb id) (before i) in (
         (λ h. let o = w .0 h in let a = at-id i (o .1) in (a .0, a .1, a .2 ∙ sym (eqb-true id (o .0) (o .2)))),
-        (λ a. w .1 (entryAt file (a .0) .id, id-at i (a .0) (a .1), eq-eqb id (entryAt file (a .0) .id) (sym (a .2)))),
+        (λ a. w .1 (idOf (a .0), id-at i (a .0) (a .1), eq-eqb id (idOf (a .0)) (sym (a .2)))),
       )
+
+-- ---- the tests of a file
+module _ (file : List ℕ) where
+  ids-before : (i id : ℕ) → Tells (isSeen id (idsBefore file i)) ((j : ℕ) × (j < i) × (entryAt file j .id ≡ id))
+  unfolding idsBefore
+  ids-before = seen-test (λ j. entryAt file j .id) (idsBefore file) refl (λ i. refl)
 
   -- the end of the last entry, or 0
   EndsWrong : ℕ → Type 0
@@ -157,19 +167,13 @@ module _ (file : List ℕ) where
   Exists (outOfRange k) = 24 * k + 24 ≤ tablePlace file
   Exists (flat k) = 24 * k + 24 ≤ tablePlace file
 
-  both : {b : Bool} {E P : Type 0} → Tells b P → (E × (b ≡ true)) ↔ (E × P)
-  both t = ((λ w. (w .0, t .0 (w .1))), (λ w. (w .0, t .1 (w .1))))
-
-  only : {b : Bool} {P : Type 0} → Tells b P → (T true × (b ≡ true)) ↔ P
-  only t = ((λ w. t .0 (w .1)), (λ p. (tt, t .1 p)))
-
   pub applies : (row : Row) → (Exists row × (test file row ≡ true)) ↔ Applies file row
   unfolding test
   applies badLength = only (length-test (length file))
   applies otherLength = only (other (storedLength file) (length file))
   applies badTrailer = only (trailer-test (tablePlace file) (countOf file) (length file))
   applies (badEntry i) = both (entry-test (entryAt file i) (endBefore file i))
-  applies (idAgain i) = both (seen-test i (entryAt file i .id))
+  applies (idAgain i) = both (ids-before i (entryAt file i .id))
   applies wrongEnd = unfold EndsWrong in only (end-test (countOf file))
   applies (outOfRange k) = both (range-test (triangleAt file k))
   applies (flat k) = both (flat-test (triangleAt file k))

@@ -5,6 +5,7 @@ use mathlib.Core.Logic.{_⊎_, _↔_}
 use mathlib.Core.List.{List, List·Memᴰ}
 use lib.ListN.{length}
 use lib.IntN.{ℤ, pos, natAbs}
+use Rattle.floats.specs.Turns.{EarlierBy, FirstBy}
 use Rattle.layout.specs.Parts.{Triangle, numbersOf, tablePlace, countOf, storedLength, entryAt, endBefore, partEnd, triangleAt}
 use Rattle.layout.specs.Rules.{twiceArea}
 use Rattle.layout.specs.Verdict.{Row, badLength, otherLength, badTrailer, badEntry, idAgain, wrongEnd, outOfRange, flat, numberOf, placeOf, numberAt, good, verdict}
@@ -70,12 +71,11 @@ turnOf (outOfRange k) = 2 * k
 turnOf (flat k) = 2 * k + 1
 
 abbrev pub Earlier : Row → Row → Type 0
-Earlier a b = (stageOf a < stageOf b) ⊎ ((stageOf a ≡ stageOf b) × (turnOf a < turnOf b))
+Earlier a b = EarlierBy stageOf turnOf a b
 
 -- the row applies and no earlier row does
-pub record First (file : List ℕ) (row : Row) : Type 0 where
-  pub applies : Applies file row
-  pub noneBefore : (earlier : Row) → Earlier earlier row → Applies file earlier → ⊥
+abbrev pub First : List ℕ → Row → Type 0
+First file row = FirstBy stageOf turnOf (Applies file) row
 
 pub record ExactlyWhen (file : List ℕ) : Type 0 where
   -- a row's number and place are said exactly if it applies and no earlier row does

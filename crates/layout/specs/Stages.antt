@@ -4,9 +4,10 @@ use mathlib.Core.Path.{_≡_}
 use mathlib.Core.Bool.{cond}
 use mathlib.Core.List.{List, [], _∷_, _++_}
 use lib.Dec.{eqb}
+use Rattle.floats.specs.Turns.{inTurn}
 use Rattle.layout.specs.Parts.{countOf, entryPlace, entryAt, endBefore, trianglePlace, triangleAt, trianglesOf}
 use Rattle.layout.specs.Rules.{isSeen, entryRule, triangleRule}
-use Rattle.layout.specs.Verdict.{Row, badLength, otherLength, badTrailer, badEntry, idAgain, wrongEnd, outOfRange, flat, idsBefore, inTurn, firstOf, numberAt, verdict}
+use Rattle.layout.specs.Verdict.{Row, badLength, otherLength, badTrailer, badEntry, idAgain, wrongEnd, outOfRange, flat, idsBefore, firstOf, numberAt, verdict}
 use Rattle.layout.specs.declared.Verdict.{Verdict}
 
 -- the first of two that is a refusal

@@ -1,8 +1,9 @@
 -- 01, "The footprint file": the refusal table and its order, and what is said of a file. Definitions only.
-use Prim.Native.Nat.{ℕ, zero, suc, _+_, _-_}
+use Prim.Native.Nat.{ℕ, zero, suc, _-_}
 use mathlib.Core.Bool.{Bool, cond}
 use mathlib.Core.List.{List, [], _∷_, _++_}
 use lib.ListN.{length}
+use Rattle.floats.specs.Turns.{inTurn}
 use Rattle.layout.specs.Parts.{tablePlace, countOf, storedLength, entryPlace, entryAt, endBefore, trianglePlace, triangleAt, trianglesOf}
 use Rattle.layout.specs.Rules.{isBadLength, isOtherLength, isBadTrailer, isBadEntry, isSeen, isWrongEnd, isOutOfRange, isFlat}
 use Rattle.layout.specs.declared.Verdict.{Verdict}
@@ -34,11 +35,6 @@ numberAt number place = record { number = number; place = place }
 
 abbrev pub good : Verdict
 good = numberAt 0 0
-
--- of m things from number i on, each in turn: its first row, then its second
-unfoldable pub inTurn : (ℕ → Row) → (ℕ → Row) → ℕ → ℕ → List Row
-inTurn first second zero i = []
-inTurn first second (suc m) i = first i ∷ second i ∷ inTurn first second m (i + 1)
 
 module _ (file : List ℕ) where
   -- the ids of the first i entries, the latest first

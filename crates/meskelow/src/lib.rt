@@ -2,6 +2,8 @@
 ghost use Rattle.triangles.specs.Promise.{PairPromise};
 ghost use Rattle.triangles.specs.Decision.{SaidOf};
 ghost use Rattle.layout.specs.Promise.{Checked, Recorded};
+ghost use Rattle.filing.specs.Given.{givenOf};
+ghost use Rattle.filing.specs.Promise.{WritePromise};
 ghost use Rattle.listing.specs.Promise.{ListPromise};
 
 // Two triangles, U0x, U0y, .. V2y: the answer, with the ring's corners at the front of the room, or a refusal, with the room as it was.
@@ -34,6 +36,20 @@ pub extern "C" fn meskelow_recording(file: &[u8], k: usize) -> layout::Recording
     ensures { λ r. ⌜ Recorded (now (file .entry)) k r ⌝ }
 {
     recordings::recording(file, k)
+}
+
+// Lists of ids, counts and sets and the triangles' numbers: the length of their file, with the file at the front of the room, or a refusal's number with zeros, with the room as it was.
+#[no_mangle]
+pub extern "C" fn meskelow_write(
+    ids: &[u32],
+    counts: &[u32],
+    sets: &[u8],
+    numbers: &[i32],
+    room: &mut [u8],
+) -> text::Written
+    ensures { λ r. ⌜ WritePromise (givenOf (now (ids .entry)) (now (counts .entry)) (now (sets .entry)) (now (numbers .entry))) (now (room .entry)) r (now (room .exit)) ⌝ }
+{
+    filer::write(ids, counts, sets, numbers, room)
 }
 
 // The leak list of a file's bytes: its length, the number of its leaks and that of the pairs of recordings that only touch, with the list at the front of the room, or a refusal's number and place with zeros, with the room as it was.

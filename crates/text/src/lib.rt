@@ -6,6 +6,14 @@ ghost use Rattle.text.specs.Decimal.{digit as digitOf, decimal};
 ghost use Rattle.text.specs.Room.{Measured, Put};
 ghost use Rattle.text.specs.Code.{digits};
 
+// What is said of something that was to be written to lent room: its length beside number 0 and place 0, or a refusal's number and place with length 0.
+#[repr(C)]
+pub struct Written {
+    pub number: u32,
+    pub place: u32,
+    pub length: usize,
+}
+
 // How many digits n has.
 pub fn width(n: u32) -> usize
     ensures { λ r. ⌜ Measured (decimal n) r × (r ≤ n + 1) ⌝ }

@@ -1,5 +1,6 @@
 //! Time a pair and time a byte, the library and the second program in turn over the same input.
-//! A pair is given by itself, or is one of a file's whose leaks are listed.
+//! A pair is given by itself, or is one of a file's whose leaks are listed; a byte is one of a file's that is
+//! judged or written.
 
 use std::process::ExitCode;
 use std::time::Instant;
@@ -9,12 +10,14 @@ use second::footprint::{self, Entry, Verdict, MOST_BYTES};
 use second::leaks::{self, List};
 use second::library;
 use second::triangles;
-use second::workloads::{file_of_tracks, largest_file, pairs, pairs_of_tracks, unforeseen, Values};
-use second::workloads::{fold, fold_list, fold_verdict, FILE, LEAKS, MOST_TRACKS, NAMES};
+use second::workloads::{file_of_tracks, largest_draft, largest_file, pairs, pairs_of_tracks, unforeseen};
+use second::workloads::{fold, fold_list, fold_verdict, fold_written, Values};
+use second::workloads::{FILE, LEAKS, MOST_TRACKS, NAMES, WRITE};
+use second::writer::{self, Handed, Written};
 
 const PAIRS: usize = 2_000;
 const ROUNDS: usize = 600;
-/// How often the file is judged in a round.
+/// How often the file is judged, or written, in a round.
 const JUDGEMENTS: usize = 4;
 /// Fewer, because a list takes a thousand times as long as a round of the others.
 const ROUNDS_OF_LISTS: usize = 12;
@@ -50,6 +53,12 @@ fn main() -> ExitCode {
         return ExitCode::FAILURE;
     }
     measure_file(&file);
+    let draft = largest_draft();
+    if file_of(draft.handed(), library::write) != file_of(draft.handed(), writer::write) {
+        println!("{WRITE}: the two programs answer differently");
+        return ExitCode::FAILURE;
+    }
+    measure_write(draft.handed(), file.len());
     ExitCode::SUCCESS
 }
 
@@ -101,6 +110,12 @@ fn list_of(file: &[u8], list: fn(&[u8], &mut [u8]) -> List) -> (List, Vec<u8>) {
     (list(file, &mut room), room)
 }
 
+/// The same of a file that is written.
+fn file_of(handed: Handed, write: fn(Handed, &mut [u8]) -> Written) -> (Written, Vec<u8>) {
+    let mut room = vec![0; MOST_BYTES];
+    (write(handed, &mut room), room)
+}
+
 fn measure(name: &str, pairs: &[Values]) {
     let times = in_turn(ROUNDS, || time_library(pairs), || time_second(pairs));
     let overlapping = pairs.iter().filter(|values| decide(*values).overlaps()).count();
@@ -123,6 +138,15 @@ fn measure_file(file: &[u8]) {
         "", "bytes", "library ns/byte", "second ns/byte", "library/second"
     );
     print_row(FILE, file.len().to_string(), 3, times);
+}
+
+fn measure_write(handed: Handed, length: usize) {
+    let times = in_turn(
+        ROUNDS,
+        || time_writing(handed, length, library::write),
+        || time_writing(handed, length, writer::write),
+    );
+    print_row(WRITE, length.to_string(), 3, times);
 }
 
 fn percent(part: usize, whole: usize) -> String {
@@ -196,6 +220,18 @@ fn time_judging(file: &[u8], check: fn(&[u8]) -> Verdict) -> f64 {
     }
     unforeseen(sum);
     begin.elapsed().as_nanos() as f64 / (JUDGEMENTS * file.len()) as f64
+}
+
+/// The room is made, and touched, before the clock runs.
+fn time_writing(handed: Handed, length: usize, write: fn(Handed, &mut [u8]) -> Written) -> f64 {
+    let mut room = vec![46; MOST_BYTES];
+    let begin = Instant::now();
+    let mut sum = 0;
+    for _ in 0..JUDGEMENTS {
+        sum = fold_written(sum, write(unforeseen(handed), &mut room));
+    }
+    unforeseen(sum);
+    begin.elapsed().as_nanos() as f64 / (JUDGEMENTS * length) as f64
 }
 
 /// One list; its room is made before the clock runs.

@@ -6,8 +6,9 @@ use second::footprint::{judge, Verdict, MOST_BYTES};
 use second::leaks::{leaks, List};
 use second::library;
 use second::triangles;
-use second::workloads::{file_of_tracks, largest_file, pairs, unforeseen, Values, FILE, LEAKS, MOST_TRACKS};
-use second::workloads::{fold, fold_list, fold_verdict};
+use second::workloads::{file_of_tracks, largest_draft, largest_file, pairs, unforeseen, Values};
+use second::workloads::{fold, fold_list, fold_verdict, fold_written, FILE, LEAKS, MOST_TRACKS, WRITE};
+use second::writer::{write, Handed, Written};
 
 fn main() -> ExitCode {
     match checksum() {
@@ -16,7 +17,7 @@ fn main() -> ExitCode {
             ExitCode::SUCCESS
         }
         None => {
-            eprintln!("usage: loop library|second random|strips|far|file|leaks COUNT ROUNDS");
+            eprintln!("usage: loop library|second random|strips|far|file|write|leaks COUNT ROUNDS");
             ExitCode::from(2)
         }
     }
@@ -31,6 +32,9 @@ fn checksum() -> Option<u64> {
     let (count, rounds): (usize, usize) = (count.parse().ok()?, rounds.parse().ok()?);
     if workload == FILE {
         return judgements(side, count * rounds);
+    }
+    if workload == WRITE {
+        return files(side, count * rounds);
     }
     if workload == LEAKS {
         return lists(side, count, rounds);
@@ -53,6 +57,19 @@ fn judgements(side: &str, count: usize) -> Option<u64> {
         _ => return None,
     };
     Some((0..count).fold(0, |sum, _| fold_verdict(sum, check(unforeseen(&file)))))
+}
+
+/// The same one again and again, in the same room, which is looked at itself once.
+fn files(side: &str, count: usize) -> Option<u64> {
+    let write: fn(Handed, &mut [u8]) -> Written = match side {
+        "library" => library::write,
+        "second" => write,
+        _ => return None,
+    };
+    let draft = largest_draft();
+    let mut room = [0; MOST_BYTES];
+    let sum = (0..count).fold(0, |sum, _| fold_written(sum, write(unforeseen(draft.handed()), &mut room)));
+    Some(room.iter().fold(sum, |sum, byte| sum.rotate_left(7) ^ u64::from(*byte)))
 }
 
 /// Of one file with so many recordings of either set. The last list is looked at itself, once.

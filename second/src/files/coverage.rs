@@ -3,7 +3,7 @@
 use super::faults::{faults_in, trailer_of};
 use super::shapes::cross;
 use crate::footprint::stored::{triangle, Line, Trailer, ENTRY, TRIANGLE};
-use crate::footprint::{in_range, Reason, Refused, FARTHEST};
+use crate::footprint::{Reason, Refused, FARTHEST};
 
 pub struct Coverage<'a> {
     pub file: &'a [u8],
@@ -21,7 +21,7 @@ pub enum Of {
     Last,
 }
 
-/// What there is among the triangles of a good file.
+/// What there is among good triangles.
 #[derive(Default)]
 pub struct Shapes {
     pub highest: bool,
@@ -37,7 +37,7 @@ impl<'a> Coverage<'a> {
         let (faults, trailer) = (faults_in(file), trailer_of(file));
         let mut coverage = Coverage { file, faults, trailer, shapes: Shapes::default() };
         if coverage.accepted() {
-            coverage.shapes = Shapes::among(&file[..coverage.table()]);
+            coverage.shapes = Shapes::among(file[..coverage.table()].chunks_exact(TRIANGLE).map(triangle));
         }
         coverage
     }
@@ -112,16 +112,6 @@ impl<'a> Coverage<'a> {
         triangle(&self.file[self.place()..])
     }
 
-    /// The one coordinate that is out of range, and which it is.
-    pub fn out_of_range(&self) -> Option<(usize, i32)> {
-        let out = |(_, value): &(usize, i32)| !in_range(*value);
-        let mut all = self.values().into_iter().enumerate().filter(out);
-        match (all.next(), all.next()) {
-            (Some(one), None) => Some(one),
-            _ => None,
-        }
-    }
-
     /// The entries before the refused one that have its id too.
     pub fn twins(&self) -> Vec<Of> {
         let lines = self.lines();
@@ -140,7 +130,7 @@ impl<'a> Coverage<'a> {
     }
 }
 
-fn which(index: usize, count: usize) -> Of {
+pub fn which(index: usize, count: usize) -> Of {
     match index {
         0 => Of::First,
         _ if index + 1 == count => Of::Last,
@@ -149,9 +139,9 @@ fn which(index: usize, count: usize) -> Of {
 }
 
 impl Shapes {
-    fn among(triangles: &[u8]) -> Shapes {
+    pub fn among(triangles: impl Iterator<Item = [i32; 6]>) -> Shapes {
         let mut shapes = Shapes::default();
-        for values in triangles.chunks_exact(TRIANGLE).map(triangle) {
+        for values in triangles {
             let area = cross(values);
             let long = (i64::from(values[2]) - i64::from(values[0])).abs() > 1 << 19;
             shapes.highest |= values.contains(&FARTHEST);

@@ -94,7 +94,8 @@ impl Draft {
     }
 }
 
-fn some_place(count: usize, random: &mut Random) -> Option<usize> {
+/// The first place of so many, the last, or any.
+pub fn some_place(count: usize, random: &mut Random) -> Option<usize> {
     match (count, random.below(3)) {
         (0, _) => None,
         (_, 0) => Some(0),

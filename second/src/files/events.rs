@@ -1,6 +1,7 @@
 //! What a wrong program could do unseen unless a file, or a recording asked of it, brings it about.
 
 use super::coverage::{Coverage, Of};
+use super::shapes::{equal_vertices, larger_product, only_out_of_range};
 use crate::footprint::{Reason, MOST_BYTES};
 
 pub type Event = (&'static str, fn(&Coverage) -> bool);
@@ -78,7 +79,7 @@ pub const AT_TRIANGLE: [Event; 15] = [
     ("18, vertices 0 and 2 equal alone", |c| c.number() == 18 && equal(c) == [false, true, false]),
     ("18, vertices 1 and 2 equal alone", |c| c.number() == 18 && equal(c) == [false, false, true]),
     ("18, three different vertices", |c| c.number() == 18 && equal(c) == [false; 3]),
-    ("18, products past 32 bits", |c| c.number() == 18 && product(c) > 1 << 32),
+    ("18, products past 32 bits", |c| c.number() == 18 && larger_product(c.values()) > 1 << 32),
 ];
 
 /// Of a file and the number of a recording asked of it.
@@ -133,18 +134,11 @@ fn twins_are_of_one_set(c: &Coverage) -> bool {
     lines.iter().filter(|other| other.id == line.id).all(|other| other.set == line.set)
 }
 
-/// The larger part of the refused triangle's cross, without its sign.
-fn product(c: &Coverage) -> i64 {
-    let [x0, y0, x1, y1, x2, y2] = c.values().map(i64::from);
-    ((x1 - x0) * (y2 - y0)).abs().max(((y1 - y0) * (x2 - x0)).abs())
-}
-
 fn is_only(c: &Coverage, value: i32) -> bool {
-    c.out_of_range().map_or(false, |found| found.1 == value)
+    only_out_of_range(c.values()).map_or(false, |found| found.1 == value)
 }
 
-/// Vertices 0 and 1, 0 and 2, 1 and 2.
+/// Of the refused triangle.
 fn equal(c: &Coverage) -> [bool; 3] {
-    let [x0, y0, x1, y1, x2, y2] = c.values();
-    [(x0, y0) == (x1, y1), (x0, y0) == (x2, y2), (x1, y1) == (x2, y2)]
+    equal_vertices(c.values())
 }

@@ -92,7 +92,7 @@ pub fn too_many(random: &mut Random) -> Draft {
 }
 
 /// Each recording has from one triangle to `most`.
-fn made(random: &mut Random, recordings: usize, most: usize, shape: Shape) -> Draft {
+pub fn made(random: &mut Random, recordings: usize, most: usize, shape: Shape) -> Draft {
     let counts: Vec<u16> = (0..recordings).map(|_| 1 + random.below(most) as u16).collect();
     let total: usize = counts.iter().map(|count| usize::from(*count)).sum();
     let triangles = (0..total).map(|_| shape(random)).collect();

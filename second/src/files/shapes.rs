@@ -1,7 +1,7 @@
 //! Triangles for files: good ones of every kind, flat ones, and coordinates out of range.
 
 use super::draft::Triangle;
-use crate::footprint::FARTHEST;
+use crate::footprint::{in_range, FARTHEST};
 use crate::random::Random;
 
 pub type Shape = fn(&mut Random) -> Triangle;
@@ -131,6 +131,27 @@ pub fn out_of_range(random: &mut Random) -> i32 {
 pub fn cross(triangle: Triangle) -> i128 {
     let [x0, y0, x1, y1, x2, y2] = triangle.map(i128::from);
     (x1 - x0) * (y2 - y0) - (y1 - y0) * (x2 - x0)
+}
+
+/// The larger part of the cross, without its sign.
+pub fn larger_product(triangle: Triangle) -> i128 {
+    let [x0, y0, x1, y1, x2, y2] = triangle.map(i128::from);
+    ((x1 - x0) * (y2 - y0)).abs().max(((y1 - y0) * (x2 - x0)).abs())
+}
+
+/// Vertices 0 and 1, 0 and 2, 1 and 2.
+pub fn equal_vertices([x0, y0, x1, y1, x2, y2]: Triangle) -> [bool; 3] {
+    [(x0, y0) == (x1, y1), (x0, y0) == (x2, y2), (x1, y1) == (x2, y2)]
+}
+
+/// The one coordinate that is out of range, and which it is.
+pub fn only_out_of_range(triangle: Triangle) -> Option<(usize, i32)> {
+    let out = |(_, value): &(usize, i32)| !in_range(*value);
+    let mut all = triangle.into_iter().enumerate().filter(out);
+    match (all.next(), all.next()) {
+        (Some(one), None) => Some(one),
+        _ => None,
+    }
 }
 
 fn moved(triangle: Triangle, by: [i32; 2]) -> Triangle {

@@ -4,6 +4,7 @@ use std::cmp::Ordering;
 
 use super::coverage::{Coverage, Of};
 use super::events::{Event, ACCEPTED, ASKED, AT_TABLE, AT_TRAILER, AT_TRIANGLE};
+use super::shapes::only_out_of_range;
 use super::CLASSES;
 use crate::footprint::Reason;
 use crate::tally::Row;
@@ -36,7 +37,8 @@ impl Default for Tally {
         tally.add_events(&AT_TRIANGLE);
         for index in 0..6 {
             let name = format!("17, only coordinate {index} of the triangle");
-            let is_it = move |c: &Coverage| c.out_of_range().map_or(false, |found| found.0 == index);
+            let is_it =
+                move |c: &Coverage| only_out_of_range(c.values()).map_or(false, |found| found.0 == index);
             tally.add_test("refusal", name, move |c| c.number() == 17 && is_it(c));
         }
         for number in &ORDER[1..] {

@@ -59,7 +59,7 @@ fn good() -> Vec<Worked> {
 }
 
 /// This many recordings with a triangle each; good up to 64.
-fn numbered(recordings: u8) -> Vec<u8> {
+pub fn numbered(recordings: u8) -> Vec<u8> {
     let mut file = EXAMPLE[..24].repeat(usize::from(recordings));
     let table = file.len() as u32;
     for k in 0..recordings {

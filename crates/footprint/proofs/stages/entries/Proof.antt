@@ -5,8 +5,9 @@ use Prim.Native.Nat.{_≤_, _*_, _-_}
 use mathlib.Core.Path.{_≡_, refl, sym, ap, _∙_}
 use mathlib.Core.List.{[], _∷_, _++_}
 use denote.Ref.{now}
+use Rattle.floats.specs.Turns.{inTurn}
 use Rattle.layout.specs.Parts.{endBefore, entryFrom, entryPlace}
-use Rattle.layout.specs.Verdict.{badEntry, idAgain, wrongEnd, inTurn, firstOf}
+use Rattle.layout.specs.Verdict.{badEntry, idAgain, wrongEnd, firstOf}
 use Rattle.layout.specs.Stages.{tableRows, entryNumber}
 use Rattle.layout.proofs.Stages.{entry-says, stops, goes-on, ended}
 use Rattle.footprint.proofs.Table.{place-is, entry-is, entry-cut, number-is, end-is, at-start, wrong-end, right-end}

@@ -5,8 +5,9 @@ use Prim.Native.Nat.{_≤_, _-_, _/_}
 use mathlib.Core.Path.{_≡_, refl, sym, _∙_}
 use mathlib.Core.List.{[], _++_}
 use denote.Ref.{now}
+use Rattle.floats.specs.Turns.{inTurn}
 use Rattle.layout.specs.Parts.{trianglePlace}
-use Rattle.layout.specs.Verdict.{outOfRange, flat, inTurn, firstOf}
+use Rattle.layout.specs.Verdict.{outOfRange, flat, firstOf}
 use Rattle.layout.specs.Stages.{triangleRows, triangleNumber}
 use Rattle.layout.proofs.Stages.{triangle-says, stops, goes-on, ended}
 use Rattle.footprint.proofs.Verdicts.{from-start, triangle-cut}

@@ -1,0 +1,10 @@
+pub mod Bytes
+pub mod Joined
+pub mod Rows
+pub mod Fit
+pub mod Read
+pub mod Taken
+pub mod Accepted
+pub mod Kept
+pub mod Returned
+pub mod Worked

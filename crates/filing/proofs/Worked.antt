@@ -1,0 +1,53 @@
+-- The lists worked by hand come out so: one computed test over them, and what it says of each. Assumes nothing.
+use Prim.Native.Nat.{ℕ}
+use mathlib.Core.Path.{_≡_, refl, ap₂}
+use mathlib.Core.Bool.{Bool, _&&_}
+use mathlib.Core.List.{List, List·Memᴰ}
+use lib.Dec.{T, eqb, eqb→eq}
+use lib.ListN.{replicate}
+use lib.Ieee.Fits.{and-l, and-r}
+use Rattle.floats.specs.Lists.{all}
+use Rattle.floats.proofs.Lists.{all-at, sameList, same-list}
+use Rattle.text.specs.declared.Written.{Written}
+use Rattle.filing.specs.Written.{written}
+use Rattle.filing.specs.Taken.{listed}
+use Rattle.filing.specs.Worked.{Case, Shown, again, cases}
+
+sameWritten : Written → Written → Bool
+sameWritten a b = eqb (a .number) (b .number) && (eqb (a .place) (b .place) && eqb (a .length) (b .length))
+
+sameBytes : List ℕ → List ℕ → Bool
+unfolding sameList
+sameBytes = sameList eqb
+
+right : Case → Bool
+unfolding sameWritten sameBytes written
+right c = sameWritten (written (c .given) (replicate (c .room) 46) .result) (c .says) && sameBytes (written (c .given) (replicate (c .room) 46) .room) (c .after)
+
+all-right : T (all right cases)
+unfolding all right listed again
+all-right = tt
+
+writtenFrom : ℕ → ℕ → ℕ → Written
+writtenFrom number place length = record { number = number; place = place; length = length }
+
+fields : {n n' p p' l l' : ℕ} → n ≡ n' → p ≡ p' → l ≡ l' → writtenFrom n p l ≡ writtenFrom n' p' l'
+fields n p l = rw (n, p, l) refl
+
+same-written : (a b : Written) → T (sameWritten a b) → a ≡ b
+unfolding sameWritten writtenFrom
+same-written a b t =
+    let rest = and-r (eqb (a .number) (b .number)) (eqb (a .place) (b .place) && eqb (a .length) (b .length)) t in
+    fields (eqb→eq (a .number) (b .number) (and-l (eqb (a .number) (b .number)) (eqb (a .place) (b .place) && eqb (a .length) (b .length)) t))
+    (eqb→eq (a .place) (b .place) (and-l (eqb (a .place) (b .place)) (eqb (a .length) (b .length)) rest))
+    (eqb→eq (a .length) (b .length) (and-r (eqb (a .place) (b .place)) (eqb (a .length) (b .length)) rest))
+
+-- each comes out as it was worked
+pub worked : (c : Case) → List·Memᴰ c cases → Shown c
+unfolding right sameBytes
+worked c m =
+    let t = all-at right cases all-right m in
+    let w = written (c .given) (replicate (c .room) 46) in
+    let A = sameWritten (w .result) (c .says) in
+    let B = sameBytes (w .room) (c .after) in
+    record { says = same-written (w .result) (c .says) (and-l A B t); after = same-list eqb eqb→eq (w .room) (c .after) (and-r A B t) }

@@ -1,0 +1,59 @@
+-- 02, No. 2: what is given to the writer, lists of id, count and set and the triangles' i32 numbers, and which recordings and triangles these are. Definitions only.
+use Prim.Native.Nat.{ℕ, zero, suc, _+_, _*_, _/_}
+use mathlib.Core.List.{List}
+use lib.ListN.{length, getD}
+use lib.IntN.{ℤ, pos}
+use Rattle.layout.specs.Parts.{Triangle, triangleOf}
+use Rattle.layout.specs.declared.Entry.{Entry}
+
+pub record Given : Type 0 where
+  pub ids : List ℕ
+  pub counts : List ℕ
+  pub sets : List ℕ
+  pub numbers : List ℤ
+
+-- by the four lists
+abbrev pub givenOf : List ℕ → List ℕ → List ℕ → List ℤ → Given
+givenOf ids counts sets numbers = record { ids = ids; counts = counts; sets = sets; numbers = numbers }
+
+-- a table entry, by what a writer knows of it: its last byte is zero
+abbrev pub entryBy : ℕ → ℕ → ℕ → ℕ → Entry
+entryBy id first count set = record { id = id; first = first; count = count; set = set; last = 0 }
+
+-- the sum of the first i counts, of natural numbers, so it is exact
+unfoldable pub sumOf : List ℕ → ℕ → ℕ
+sumOf counts zero = 0
+sumOf counts (suc i) = sumOf counts i + getD counts i 0
+
+module _ (g : Given) where
+  -- how many recordings there are, and how many whole triangles, six numbers each
+  abbrev pub recordings : ℕ
+  recordings = length (g .ids)
+
+  abbrev pub triangles : ℕ
+  triangles = length (g .numbers) / 6
+
+  abbrev pub idOf : ℕ → ℕ
+  idOf i = getD (g .ids) i 0
+
+  abbrev pub countOf : ℕ → ℕ
+  countOf i = getD (g .counts) i 0
+
+  abbrev pub setOf : ℕ → ℕ
+  setOf i = getD (g .sets) i 0
+
+  abbrev pub numberOf : ℕ → ℤ
+  numberOf j = getD (g .numbers) j (pos 0)
+
+  -- how many triangles the first i recordings have
+  abbrev pub sumTo : ℕ → ℕ
+  sumTo i = sumOf (g .counts) i
+
+  -- the entry of recording i: its triangles begin where those of the recordings before it end
+  unfoldable pub entryOf : ℕ → Entry
+  unfolding sumOf
+  entryOf i = entryBy (idOf i) (24 * sumTo i) (countOf i) (setOf i)
+
+  -- triangle k: its six numbers
+  unfoldable pub triangleIn : ℕ → Triangle
+  triangleIn k = triangleOf (numberOf (6 * k)) (numberOf (6 * k + 1)) (numberOf (6 * k + 2)) (numberOf (6 * k + 3)) (numberOf (6 * k + 4)) (numberOf (6 * k + 5))

@@ -1,0 +1,1 @@
+// From lists to a footprint file: what is written, and what is refused.

@@ -1,0 +1,147 @@
+/* A boat tool: it makes lists of a night's recordings from the boat's log, writes them as a footprint file, which it keeps if it
+ * is given a name, and lists the file's leaks. Exit status: 0 no leaks, though strips may touch, 1 leaks, 2 the night is refused,
+ * 3 the file or the list could not be written. */
+#include <inttypes.h>
+#include <stdbool.h>
+#include <stddef.h>
+#include <stdio.h>
+#include <string.h>
+
+#include "meskelow.h"
+
+#define NO_FIX INT32_MIN /* what the logger puts down where the position fix dropped */
+
+typedef struct {
+    int32_t x, y; /* whole centimetres */
+} point;
+
+typedef struct {
+    point left, right; /* how far the sonar reached to either side */
+} edge;
+
+enum { RECORDINGS = 4, EDGES = 3 };
+
+static const struct {
+    uint32_t id;
+    uint8_t set;
+    size_t edges;
+    edge log[EDGES];
+} night[RECORDINGS] = {
+    /* three recordings along one line, each from the edge on where the one before ends */
+    {240917101, MESKELOW_TRAINING, 2, {{{0, 3000}, {0, -3000}}, {{20000, 3000}, {20000, -3000}}}},
+    {240917102, MESKELOW_TEST, 2, {{{20000, 3000}, {20000, -3000}}, {{40000, 3000}, {40000, -3000}}}},
+    {240917103, MESKELOW_HELD_BACK, 2, {{{40000, 3000}, {40000, -3000}}, {{60000, 3000}, {60000, -3000}}}},
+    /* the way home, across the first: both its triangles overlap both of the other. At the end the fix dropped */
+    {240917104, MESKELOW_TEST, 3, {{{12000, 10000}, {8000, 10000}}, {{12000, -10000}, {8000, -10000}}, {{NO_FIX, NO_FIX}, {8000, -30000}}}},
+};
+
+static struct {
+    uint32_t ids[RECORDINGS], counts[RECORDINGS];
+    uint8_t sets[RECORDINGS];
+    size_t recordings;
+    int32_t numbers[RECORDINGS * (EDGES - 1) * 2 * 6]; /* two triangles between two edges, six numbers each */
+    size_t numbers_len;
+} lists;
+
+static uint8_t file[MESKELOW_LONGEST_FILE]; /* room for every file */
+
+static void add_triangle(point a, point b, point c)
+{
+    const int32_t six[] = {a.x, a.y, b.x, b.y, c.x, c.y};
+    memcpy(lists.numbers + lists.numbers_len, six, sizeof six);
+    lists.numbers_len += 6;
+}
+
+static bool has_fix(edge e)
+{
+    return e.left.x != NO_FIX && e.left.y != NO_FIX && e.right.x != NO_FIX && e.right.y != NO_FIX;
+}
+
+/* The lists of the whole night, with or without what lies next to a dropped fix. A recording of which nothing is left is left out. */
+static void make_lists(bool with_dropped)
+{
+    lists.recordings = lists.numbers_len = 0;
+    for (size_t i = 0; i < RECORDINGS; i++) {
+        size_t before = lists.numbers_len;
+        for (size_t k = 0; k + 1 < night[i].edges; k++) {
+            edge from = night[i].log[k], to = night[i].log[k + 1];
+            if (with_dropped || (has_fix(from) && has_fix(to))) {
+                add_triangle(from.left, from.right, to.left);
+                add_triangle(from.right, to.right, to.left);
+            }
+        }
+        if (lists.numbers_len == before)
+            continue;
+        lists.ids[lists.recordings] = night[i].id;
+        lists.counts[lists.recordings] = (uint32_t)((lists.numbers_len - before) / 6);
+        lists.sets[lists.recordings] = night[i].set;
+        lists.recordings++;
+    }
+}
+
+/* What those on board are told of a refusal. */
+static const char *reason(uint32_t number)
+{
+    switch (number) {
+    case MESKELOW_REFUSED_TABLE: return "the lists do not belong together";
+    case MESKELOW_REFUSED_ENTRY: return "a recording has no triangle left, or a set that there is not";
+    case MESKELOW_REFUSED_SAME_ID: return "two recordings have the same id";
+    case MESKELOW_REFUSED_OUT_OF_RANGE: return "a position is over 10 km off the origin, or there was no fix";
+    case MESKELOW_REFUSED_NO_AREA: return "the points of a triangle lie on one line";
+    case MESKELOW_REFUSED_TRAILER: return "there are over 64 recordings: make two files of them";
+    case MESKELOW_REFUSED_FILE_ROOM: return "there are too many triangles: make two files of them";
+    default: return "this tool does not know why";
+    }
+}
+
+/* Writes the lists to the front of the room. Says what came of it, and that the rest of the room stayed, which is all of it if they
+ * are refused. */
+static meskelow_written write_lists(const char *what)
+{
+    memset(file, '-', sizeof file);
+    size_t n = lists.recordings;
+    meskelow_written written = meskelow_write(lists.ids, n, lists.counts, n, lists.sets, n, lists.numbers, lists.numbers_len,
+                                              file, sizeof file);
+    if (written.number == 0)
+        printf("%s: %zu recordings in %zu bytes\n", what, n, written.length);
+    else
+        printf("%s: refused %" PRIu32 ", %s\n", what, written.number, reason(written.number));
+    bool stayed = true;
+    for (size_t i = written.length; i < sizeof file; i++)
+        stayed = stayed && file[i] == '-';
+    printf("from byte %zu on the room %s\n", written.length, stayed ? "is as it was" : "has changed");
+    return written;
+}
+
+static bool keep(const char *name, size_t length)
+{
+    FILE *stream = fopen(name, "wb");
+    bool whole = stream != NULL && fwrite(file, 1, length, stream) == length;
+    if (stream != NULL && fclose(stream) != 0)
+        whole = false;
+    if (!whole)
+        perror(name);
+    return whole;
+}
+
+int main(int argc, char **argv)
+{
+    static uint8_t room[MESKELOW_LIST_ROOM];
+
+    make_lists(true);
+    write_lists("as logged"); /* MESKELOW_REFUSED_OUT_OF_RANGE */
+    make_lists(false);
+    meskelow_written written = write_lists("without the dropped fix");
+    if (written.number != 0)
+        return 2;
+    if (argc > 1 && !keep(argv[1], written.length))
+        return 3;
+
+    meskelow_list list = meskelow_leaks(file, written.length, room, sizeof room); /* what was written is never refused */
+    fwrite(room, 1, list.length, stdout);
+    if (fflush(stdout) != 0 || ferror(stdout)) { /* what has been printed is no whole list */
+        perror("standard output");
+        return 3;
+    }
+    return list.leaks != 0;
+}

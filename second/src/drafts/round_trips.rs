@@ -1,0 +1,149 @@
+//! There and back: what is written is read, and what is read is written again.
+
+use super::draft::Draft;
+use crate::files::{self, Class};
+use crate::footprint::stored::TRIANGLE;
+use crate::footprint::{judge, Entry, Verdict};
+use crate::lists;
+use crate::random::Random;
+use crate::tally::Row;
+use crate::writer::{Handed, Written, NUMBERS};
+
+/// A reader and a writer that belong together.
+pub struct Side {
+    pub name: &'static str,
+    pub check: fn(&[u8]) -> Verdict,
+    pub recording: fn(&[u8], usize) -> Entry,
+    pub write: fn(Handed, &mut [u8]) -> Written,
+}
+
+impl Side {
+    /// The reader must accept what was written, and get from it what was handed in: of some recordings
+    /// every field, and their triangles.
+    pub fn read_back(&self, file: &[u8], draft: &Draft, asked: &[usize]) -> Result<(), String> {
+        let verdict = (self.check)(file);
+        if verdict != Verdict::default() {
+            return Err(format!("the reader of the {} says {verdict:?} of what is written\n", self.name));
+        }
+        for &k in asked {
+            let before: usize = draft.counts[..k].iter().map(|count| *count as usize).sum();
+            let expected = Entry {
+                number: 0,
+                place: 0,
+                id: draft.ids[k],
+                first: (TRIANGLE * before) as u32,
+                count: draft.counts[k],
+                set: u32::from(draft.sets[k]),
+                last: 0,
+            };
+            let entry = (self.recording)(file, k);
+            let numbers = &draft.numbers[NUMBERS * before..][..NUMBERS * draft.counts[k] as usize];
+            if entry != expected || numbers_of(entry, file).as_deref() != Some(numbers) {
+                return Err(format!("the reader of the {} gets recording {k} as {entry:?}\n", self.name));
+            }
+        }
+        Ok(())
+    }
+
+    /// What the reader gets from a good file and hands to the writer must come back as the very bytes.
+    pub fn write_again(&self, file: &[u8]) -> Result<Draft, String> {
+        let draft = self.got_from(file).ok_or(format!("the reader of the {} does not read it", self.name))?;
+        // Another byte at every place.
+        let mut room: Vec<u8> = file.iter().map(|byte| !byte).collect();
+        let written = (self.write)(draft.handed(), &mut room);
+        if written != (Written { number: 0, place: 0, length: file.len() }) || room != file {
+            return Err(format!("the writer of the {} writes another file: {written:?}", self.name));
+        }
+        Ok(draft)
+    }
+
+    /// Every recording up to the first that is not there.
+    fn got_from(&self, file: &[u8]) -> Option<Draft> {
+        let mut draft = Draft::default();
+        loop {
+            let entry = (self.recording)(file, draft.ids.len());
+            match entry.number {
+                0 => {
+                    draft.ids.push(entry.id);
+                    draft.counts.push(entry.count);
+                    draft.sets.push(u8::try_from(entry.set).ok()?);
+                    draft.numbers.extend(numbers_of(entry, file)?);
+                }
+                10 => return Some(draft),
+                _ => return None,
+            }
+        }
+    }
+}
+
+/// A recording's part of the file, number by number; None if the file does not reach so far.
+fn numbers_of(entry: Entry, file: &[u8]) -> Option<Vec<i32>> {
+    let part = file.get(entry.first as usize..)?.get(..TRIANGLE * entry.count as usize)?;
+    let number = |bytes: &[u8]| i32::from_le_bytes([bytes[0], bytes[1], bytes[2], bytes[3]]);
+    Some(part.chunks_exact(4).map(number).collect())
+}
+
+/// Where files are taken from to be written again: the classes of the other comparisons.
+pub const SOURCES: [(&str, &[Class]); 2] = [
+    ("from the comparison of files", &files::CLASSES),
+    ("from the comparison of leak lists", &lists::CLASSES),
+];
+
+/// A good one, of any class that has such.
+pub fn file_from(source: usize, random: &mut Random) -> Vec<u8> {
+    let classes = SOURCES[source].1;
+    loop {
+        let file = classes[random.below(classes.len())].file(random);
+        if judge(&file).number == 0 {
+            return file;
+        }
+    }
+}
+
+type Event = (&'static str, fn(&Draft) -> bool);
+
+const EVENTS: [Event; 6] = [
+    ("no recordings", |d| d.ids.is_empty()),
+    ("1 recording", |d| d.ids.len() == 1),
+    ("64 recordings", |d| d.ids.len() == 64),
+    ("held back ones among them", |d| d.sets.contains(&2)),
+    ("a count over 255", |d| d.counts.iter().any(|count| *count > 255)),
+    ("65,532 bytes", |d| d.length() == 65_532),
+];
+
+/// How often there was what in files that were written again, and first, where they are from. The longest
+/// take so long that few must do.
+pub fn rows() -> Vec<Row> {
+    let names = SOURCES.iter().map(|source| source.0).chain(EVENTS.iter().map(|event| event.0));
+    let row =
+        |name: &str| Row { table: "written again (5 of each will do)", name: name.to_string(), count: 0 };
+    names.map(row).collect()
+}
+
+pub const ENOUGH: usize = 5;
+
+pub fn count(rows: &mut [Row], source: usize, draft: &Draft) {
+    rows[source].count += 1;
+    for (row, (_, test)) in rows[SOURCES.len()..].iter_mut().zip(EVENTS) {
+        row.count += usize::from(test(draft));
+    }
+}
+
+#[cfg(test)]
+mod tests {
+    use super::*;
+    use crate::footprint::recording;
+    use crate::writer::write;
+
+    #[test]
+    fn there_and_back() {
+        let side = Side { name: "second program", check: judge, recording, write };
+        let mut random = Random::new(8);
+        for source in (0..SOURCES.len()).cycle().take(200) {
+            let file = file_from(source, &mut random);
+            let draft = side.write_again(&file).expect("the very bytes");
+            let all: Vec<usize> = (0..draft.ids.len()).collect();
+            side.read_back(&file, &draft, &all).expect("the same recordings");
+        }
+    }
+}
