@@ -1,5 +1,6 @@
 pub mod Bytes
 pub mod Joined
+pub mod Order
 pub mod Rows
 pub mod Fit
 pub mod Read

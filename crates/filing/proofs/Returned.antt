@@ -19,7 +19,8 @@ use Rattle.filing.specs.Rows.{Applies, First}
 use Rattle.filing.specs.Written.{notWritten, fileIn, written}
 use Rattle.filing.specs.Taken.{takenFrom}
 use Rattle.filing.specs.Promise.{NoSecondWrite, WriteDemand1, WriteReturned, SameRecordings, WrittenIsAccepted, VeryBytes}
-use Rattle.filing.proofs.Rows.{in-table, exactly-when}
+use Rattle.filing.proofs.Order.{in-table}
+use Rattle.filing.proofs.Rows.{exactly-when}
 use Rattle.filing.proofs.Fit.{fits, not-refused}
 use Rattle.filing.proofs.Read.{file-length}
 use Rattle.filing.proofs.Accepted.{same-recordings}

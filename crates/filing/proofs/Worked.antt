@@ -1,6 +1,6 @@
 -- The lists worked by hand come out so: one computed test over them, and what it says of each. Assumes nothing.
 use Prim.Native.Nat.{ℕ}
-use mathlib.Core.Path.{_≡_, refl, ap₂}
+use mathlib.Core.Path.{_≡_, refl}
 use mathlib.Core.Bool.{Bool, _&&_}
 use mathlib.Core.List.{List, List·Memᴰ}
 use lib.Dec.{T, eqb, eqb→eq}

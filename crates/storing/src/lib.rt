@@ -99,28 +99,38 @@ fn has_twelve(most: usize, at: usize) -> bool
     at <= most - 12
 }
 
-// A table entry, whose last byte is zero, from a place on; the place behind it. Where it does not fit, nothing is put, and the place stays.
-pub fn put_entry(room: &mut [u8], at: usize, id: u32, first: u32, count: u32, set: u8) -> usize
-    ensures { λ r. ⌜ Put (now (room .entry)) at (entryBytes (entryBy id first count set)) (now (room .exit)) r ⌝ }
+// Two numbers in four bytes each and four bytes more, from a place on; the place behind them. Where they do not fit, nothing is put, and the place stays.
+fn put_twelve(room: &mut [u8], at: usize, a: u32, b: u32, w: u8, x: u8, y: u8, z: u8) -> usize
+    ensures { λ r. ⌜ Put (now (room .entry)) at (inFour a ++ inFour b ++ (w ∷ x ∷ y ∷ z ∷ [])) (now (room .exit)) r ⌝ }
 {
     if has_twelve(room.len(), at) {
-        let p = store_four(room, at, id);
-        let q = store_four(room, p, first);
-        store(room, q, low(count), low(count / 256), set, 0)
+        let p = store_four(room, at, a);
+        let q = store_four(room, p, b);
+        store(room, q, w, x, y, z)
     } else {
         at
     }
+}
+
+// A table entry, whose last byte is zero, likewise.
+pub fn put_entry(room: &mut [u8], at: usize, id: u32, first: u32, count: u32, set: u8) -> usize
+    ensures { λ r. ⌜ Put (now (room .entry)) at (entryBytes (entryBy id first count set)) (now (room .exit)) r ⌝ }
+{
+    put_twelve(room, at, id, first, low(count), low(count / 256), set, 0)
 }
 
 // Three numbers likewise, in four bytes each.
 pub fn put_three(room: &mut [u8], at: usize, a: u32, b: u32, c: u32) -> usize
     ensures { λ r. ⌜ Put (now (room .entry)) at (inFour a ++ inFour b ++ inFour c) (now (room .exit)) r ⌝ }
 {
-    if has_twelve(room.len(), at) {
-        let p = store_four(room, at, a);
-        let q = store_four(room, p, b);
-        store_four(room, q, c)
-    } else {
-        at
-    }
+    put_twelve(
+        room,
+        at,
+        a,
+        b,
+        low(c),
+        low(c / 256),
+        low(c / 65536),
+        low(c / 16777216),
+    )
 }

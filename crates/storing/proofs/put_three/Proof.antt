@@ -1,62 +1,39 @@
--- Where twelve bytes fit, the three numbers are stored one behind the other; else nothing is.
+-- The third number by its four bytes.
 use borrow.Author.Needs.{needs}
-use denote.Ref.{now}
 use mathlib.Core.Path.{refl}
-use mathlib.Core.List.{_++_}
-use native.Mathlib.Omega.{arith}
-use Rattle.text.proofs.Room.{put-three}
-use Rattle.filing.specs.File.{inFour}
-use Rattle.storing.proofs.Stores.{have-twelve, no-twelve, behind-four, behind-eight}
+use Rattle.text.proofs.Room.{put-as}
 use Rattle.storing.proofs.put_three.Statement.{statement}
 use Rattle.storing.proofs.put_three.Tie as tie
 
-has-twelve-requires : tie.Need-has-twelve-requires
-has-twelve-requires c κs = search needs
+low-requires : tie.Need-low-requires
+low-requires c κs = search needs
 
-store-four-requires : tie.Need-store-four-requires
-store-four-requires c κs =
-    let g = c .before .before .before .before .args in
-    let h = have-twelve (g .at) (now (g .room)) (c .before .before .has-twelve .ensures) (c .before .if1 .taken) in
-    omega (arith, h)
+low-requires-2 : tie.Need-low-requires-2
+low-requires-2 c κs = search needs
 
-store-four-requires-2 : tie.Need-store-four-requires-2
-store-four-requires-2 c κs =
-    let s = c .before .before .before in
-    let g = s .before .before .before .before .before .args in
-    let h = have-twelve (g .at) (now (g .room)) (s .before .before .before .has-twelve .ensures) (s .before .before .if1 .taken) in
-    omega (arith, behind-four (g .a) (s .store-four .ensures) h)
+low-requires-3 : tie.Need-low-requires-3
+low-requires-3 c κs = search needs
 
-store-four-requires-3 : tie.Need-store-four-requires-3
-store-four-requires-3 c κs =
-    let t = c .before .before .before in
-    let s = t .before .before .before .before in
-    let g = s .before .before .before .before .before .args in
-    let h = have-twelve (g .at) (now (g .room)) (s .before .before .before .has-twelve .ensures) (s .before .before .if1 .taken) in
-    behind-eight (g .a) (g .b) (s .store-four .ensures) (t .store-four2 .ensures) h
+low-requires-4 : tie.Need-low-requires-4
+low-requires-4 c κs = search needs
+
+put-twelve-requires : tie.Need-put-twelve-requires
+put-twelve-requires c κs = search needs
 
 same-length : tie.Need-same-length
 same-length c = search needs
 
 returns : tie.Need-returns
-returns c =
-    let r = c .before .before in
-    let t = r .before .before .before .before in
-    let s = t .before .before .before .before in
-    let g = s .before .before .before .before .before .args in
-    let h = have-twelve (g .at) (now (g .room)) (s .before .before .before .has-twelve .ensures) (s .before .before .if1 .taken) in
-    put-three (s .store-four .ensures) (t .store-four2 .ensures) (r .store-four3 .ensures) h
-
-returns-2 : tie.Need-returns-2
-returns-2 c = let g = c .before .before .before .args in no-twelve (g .at) (now (g .room)) (c .before .has-twelve .ensures) (inFour (g .a) ++ inFour (g .b) ++ inFour (g .c)) refl (c .if1 .left)
+returns c = let r = c .before .before in put-as (rw (r .before .low4 .ensures, r .before .before .low3 .ensures, r .before .before .before .low2 .ensures, r .before .before .before .before .low .ensures) refl) (r .put-twelve .ensures)
 
 pub put-three-spec : {M : Type 1} → statement M
 put-three-spec =
     tie.close
     (tie.spec
-    has-twelve-requires
-    store-four-requires
-    store-four-requires-2
-    store-four-requires-3
+    low-requires
+    low-requires-2
+    low-requires-3
+    low-requires-4
+    put-twelve-requires
     same-length
-    returns
-    returns-2)
+    returns)
