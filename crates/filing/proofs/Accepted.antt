@@ -12,7 +12,7 @@ use Rattle.layout.specs.declared.Recording.{Recording}
 use Rattle.layout.proofs.Accepted.{accepted-exactly-if}
 use Rattle.layout.proofs.Returned.{is-good, there-is, no-such}
 use Rattle.layout.proofs.Inside.{parts-inside}
-use Rattle.filing.specs.Given.{Given, givenOf, recordings, countOf, numberOf, sumOf, sumTo, entryOf}
+use Rattle.filing.specs.Given.{Given, givenOf, recordings, countAt, coordinateAt, sumOf, sumTo, entryOf}
 use Rattle.filing.specs.File.{fileOf}
 use Rattle.filing.specs.Taken.{listed, takenFrom}
 use Rattle.filing.specs.Promise.{Ids, SameRecordings}
@@ -51,7 +51,7 @@ module _ (g : Given) (room : ℕ) (fit : Fit g room) (ids : Ids (g .ids)) where
       (field-is (λ r. r .set) (g .sets) (fit .sets) (λ i. refl))
       numbers
 
-  in-numbers : (i : ℕ) → i < recordings g → (j : ℕ) → j < 6 * countOf g i → 6 * sumTo g i + j < length (g .numbers)
+  in-numbers : (i : ℕ) → i < recordings g → (j : ℕ) → j < 6 * countAt g i → 6 * sumTo g i + j < length (g .numbers)
   unfolding sumOf
   in-numbers i h j k =
       let up = sum-up g (recordings g) (suc i) (omega (arith, h)) in
@@ -60,16 +60,16 @@ module _ (g : Given) (room : ℕ) (fit : Fit g room) (ids : Ids (g .ids)) where
       omega (arith, k, up, s, w)
 
   -- a number of a part is the file's that many places behind the part's first
-  number-of-part : (i : ℕ) → i < recordings g → (j : ℕ) → j < 6 * countOf g i → i32At (partOf (fileOf g) i) (4 * j) ≡ numberOf g (6 * sumTo g i + j)
+  number-of-part : (i : ℕ) → i < recordings g → (j : ℕ) → j < 6 * countAt g i → i32At (partOf (fileOf g) i) (4 * j) ≡ coordinateAt g (6 * sumTo g i + j)
   number-of-part i h j k =
       let e = entry-is g room fit ids i h in
-      let c : entryAt (fileOf g) i .count ≡ countOf g i = ap (λ x. x .count) e ∙ unfold entryOf in refl in
+      let c : entryAt (fileOf g) i .count ≡ countAt g i = ap (λ x. x .count) e ∙ unfold entryOf in refl in
       let f : entryAt (fileOf g) i .first ≡ 24 * sumTo g i = ap (λ x. x .first) e ∙ unfold entryOf in refl in
       let q : entryAt (fileOf g) i .first + 4 * j ≡ 4 * (6 * sumTo g i + j) = omega (arith, f) in
       parts-inside (fileOf g) i (has-layout g room fit ids) (in-file i h) .sameNumber (4 * j) (omega (arith, k, c))
       ∙ (ap (i32At (fileOf g)) q ∙ number-is g room fit ids (6 * sumTo g i + j) (in-numbers i h j k))
 
-  part-length : (i : ℕ) → i < recordings g → length (partOf (fileOf g) i) ≡ 24 * countOf g i
+  part-length : (i : ℕ) → i < recordings g → length (partOf (fileOf g) i) ≡ 24 * countAt g i
   unfolding entryOf
   part-length i h = parts-inside (fileOf g) i (has-layout g room fit ids) (in-file i h) .partLength ∙ ap (λ e. 24 * e .count) (entry-is g room fit ids i h)
 

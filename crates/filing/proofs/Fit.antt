@@ -10,7 +10,7 @@ use lib.ListN.{length}
 use Rattle.layout.specs.Parts.{numbersOf}
 use Rattle.layout.specs.Rules.{twiceArea}
 use Rattle.layout.proofs.Accepted.{same, at-most}
-use Rattle.filing.specs.Given.{Given, recordings, triangles, idOf, countOf, setOf, sumOf, sumTo, entryOf, triangleIn}
+use Rattle.filing.specs.Given.{Given, recordings, triangles, idAt, countAt, setAt, sumOf, sumTo, entryOf, triangleIn}
 use Rattle.filing.specs.File.{fileLength}
 use Rattle.filing.specs.Refusals.{Row, unequal, badEntry, idAgain, wrongSum, outOfRange, flat, tooMany, noRoom, refusal}
 use Rattle.filing.specs.Rows.{Applies}
@@ -20,9 +20,9 @@ pub record Fit (g : Given) (room : ℕ) : Type 0 where
   pub counts : length (g .counts) ≡ recordings g
   pub sets : length (g .sets) ≡ recordings g
   pub whole : 6 * triangles g ≡ length (g .numbers)
-  pub someTriangles : (i : ℕ) → i < recordings g → 0 < countOf g i
-  pub knownSet : (i : ℕ) → i < recordings g → setOf g i ≤ 2
-  pub idsOnce : (i j : ℕ) → i < j → j < recordings g → idOf g i ≡ idOf g j → ⊥
+  pub someTriangles : (i : ℕ) → i < recordings g → 0 < countAt g i
+  pub knownSet : (i : ℕ) → i < recordings g → setAt g i ≤ 2
+  pub idsOnce : (i j : ℕ) → i < j → j < recordings g → idAt g i ≡ idAt g j → ⊥
   pub sum : sumTo g (recordings g) ≡ triangles g
   pub inRange : (k : ℕ) → 6 * k + 6 ≤ length (g .numbers) → (z : ℤ) → List·Memᴰ z (numbersOf (triangleIn g k)) → natAbs z ≤ 1000000
   pub someArea : (k : ℕ) → 6 * k + 6 ≤ length (g .numbers) → twiceArea (triangleIn g k) ≡ pos 0 → ⊥
@@ -38,8 +38,8 @@ module _ (g : Given) (room : ℕ) where
         counts = same _ _ (λ n. none unequal (inl n));
         sets = same _ _ (λ n. none unequal (inr (inl n)));
         whole = same _ _ (λ n. none unequal (inr (inr (λ t e. n (exact t (length (g .numbers)) e)))));
-        someTriangles = λ i l. ⊎-elim (λ z. absurd (none (badEntry i) (l, inl z))) (λ p. p) (eq-zero-or-pos (countOf g i));
-        knownSet = λ i l. at-most (setOf g i) 2 (λ m. none (badEntry i) (l, inr (inl m)));
+        someTriangles = λ i l. ⊎-elim (λ z. absurd (none (badEntry i) (l, inl z))) (λ p. p) (eq-zero-or-pos (countAt g i));
+        knownSet = λ i l. at-most (setAt g i) 2 (λ m. none (badEntry i) (l, inr (inl m)));
         idsOnce = λ i j l m q. none (idAgain j) (m, (i, l, q));
         sum = same _ _ (none wrongSum);
         inRange = λ k l z m. at-most (natAbs z) 1000000 (λ n. none (outOfRange k) (l, (z, m, n)));

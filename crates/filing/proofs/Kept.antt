@@ -12,7 +12,7 @@ use Rattle.layout.specs.Rules.{twiceArea}
 use Rattle.layout.specs.Layout.{Layout}
 use Rattle.layout.specs.declared.Entry.{Entry}
 use Rattle.layout.proofs.Inside.{starts, end-at}
-use Rattle.filing.specs.Given.{recordings, triangles, numberOf, sumOf, sumTo, entryOf, triangleIn}
+use Rattle.filing.specs.Given.{recordings, triangles, coordinateAt, sumOf, sumTo, entryOf, triangleIn}
 use Rattle.filing.specs.File.{inFour, bitsOf, entryBytes, triangleBytes, tableBytes, trailerBytes, fileLength, fileOf}
 use Rattle.filing.specs.Taken.{takenFrom}
 use Rattle.filing.proofs.Bytes.{four-kept, bits-kept, entry-kept, three-kept}
@@ -28,7 +28,7 @@ module _ (file : List ℕ) (l : Layout file) where
   numbers-length : length (takenFrom file .numbers) ≡ tablePlace file / 4
   numbers-length = ap length (numbers-are file l) ∙ listed-length (λ j. i32At file (4 * j)) (tablePlace file / 4)
 
-  number-is : (j : ℕ) → j < tablePlace file / 4 → numberOf (takenFrom file) j ≡ i32At file (4 * j)
+  number-is : (j : ℕ) → j < tablePlace file / 4 → coordinateAt (takenFrom file) j ≡ i32At file (4 * j)
   number-is j h = ap (λ xs. getD xs j (pos 0)) (numbers-are file l) ∙ listed-at (λ k. i32At file (4 * k)) (pos 0) (tablePlace file / 4) j h
 
   -- the sums are the places where parts end
@@ -62,7 +62,7 @@ module _ (file : List ℕ) (l : Layout file) where
   triangle-is k h =
       let t = table-whole file l in
       let e = t .1 in
-      let at : (r : ℕ) → r < 6 → numberOf (takenFrom file) (6 * k + r) ≡ i32At file (4 * (6 * k + r)) = λ r m. number-is (6 * k + r) (omega (arith, h, m, e)) in
+      let at : (r : ℕ) → r < 6 → coordinateAt (takenFrom file) (6 * k + r) ≡ i32At file (4 * (6 * k + r)) = λ r m. number-is (6 * k + r) (omega (arith, h, m, e)) in
       six (number-is (6 * k) (omega (arith, h, e)) ∙ ap (i32At file) (sym (places k .0)))
       (at 1 (omega arith) ∙ ap (i32At file) (sym (places k .1)))
       (at 2 (omega arith) ∙ ap (i32At file) (sym (places k .2)))
@@ -106,7 +106,7 @@ module _ (file : List ℕ) (l : Layout file) where
         let m = numbers-length in
         let f = l .filled in
         let q : 4 * length (takenFrom file .numbers) ≡ tablePlace file = omega (arith, e, m) in
-        joined-front (λ j. inFour (bitsOf (numberOf (takenFrom file) j))) 4 file (length (takenFrom file .numbers))
+        joined-front (λ j. inFour (bitsOf (coordinateAt (takenFrom file) j))) 4 file (length (takenFrom file .numbers))
         (λ j h. ap (λ z. inFour (bitsOf z)) (number-is j (omega (arith, h, m))) ∙ number-kept j (omega (arith, h, m, e, f)))
         ∙ ap (λ n. take n file) q
       where

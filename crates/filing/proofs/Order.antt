@@ -12,7 +12,7 @@ use Rattle.floats.specs.Turns.{inTurn}
 use Rattle.floats.proofs.Turns.{turn-listed, turn-members, Sorted, turn-sorted, turn-stage}
 use Rattle.layout.specs.Rules.{isBadEntry, isSeen, isOutOfRange, isFlat, entryRule, triangleRule}
 use Rattle.layout.proofs.Tests.{Tells, less, other, either, both, only, entry-test, range-test, flat-test, seen-test}
-use Rattle.filing.specs.Given.{Given, recordings, triangles, idOf, sumOf, sumTo, entryOf, triangleIn}
+use Rattle.filing.specs.Given.{Given, recordings, triangles, idAt, sumOf, sumTo, entryOf, triangleIn}
 use Rattle.filing.specs.File.{fileLength}
 use Rattle.filing.specs.Refusals.{Row, unequal, badEntry, idAgain, wrongSum, outOfRange, flat, tooMany, noRoom, numberOf, numberIf, orElse, firstFrom, isUnequal, idsBefore, entryNumber, isWrongSum, triangleNumber, isTooMany, hasNoRoom, refusal}
 use Rattle.filing.specs.Rows.{Applies, stageOf, turnOf}
@@ -37,7 +37,7 @@ module _ (g : Given) (room : ℕ) where
   unfolding entryOf sumOf idsBefore triangleIn isBadEntry isSeen isOutOfRange isFlat
   test unequal = isUnequal g
   test (badEntry i) = isBadEntry (entryOf g i) (24 * sumTo g i)
-  test (idAgain i) = isSeen (idOf g i) (idsBefore (g .ids) i)
+  test (idAgain i) = isSeen (idAt g i) (idsBefore (g .ids) i)
   test wrongSum = isWrongSum g
   test (outOfRange k) = isOutOfRange (triangleIn g k)
   test (flat k) = isFlat (triangleIn g k)
@@ -117,15 +117,15 @@ module _ (g : Given) (room : ℕ) where
       exact : (t n : ℕ) → 6 * t ≡ n → 6 * (n / 6) ≡ n
       exact t n e = omega arith
 
-  seen-before : (i id : ℕ) → Tells (isSeen id (idsBefore (g .ids) i)) ((j : ℕ) × (j < i) × (idOf g j ≡ id))
+  seen-before : (i id : ℕ) → Tells (isSeen id (idsBefore (g .ids) i)) ((j : ℕ) × (j < i) × (idAt g j ≡ id))
   unfolding idsBefore
-  seen-before = seen-test (idOf g) (idsBefore (g .ids)) refl (λ i. refl)
+  seen-before = seen-test (idAt g) (idsBefore (g .ids)) refl (λ i. refl)
 
   pub told : (row : Row) → (Exists row × (test row ≡ true)) ↔ Applies g room row
   unfolding test
   told unequal = only (either (other (length (g .counts)) (recordings g)) (either (other (length (g .sets)) (recordings g)) whole-test))
   told (badEntry i) = both (entry-test (entryOf g i) (24 * sumTo g i))
-  told (idAgain i) = both (seen-before i (idOf g i))
+  told (idAgain i) = both (seen-before i (idAt g i))
   told wrongSum = only (other (sumTo g (recordings g)) (triangles g))
   told (outOfRange k) = both (range-test (triangleIn g k))
   told (flat k) = both (flat-test (triangleIn g k))

@@ -12,7 +12,7 @@ use Rattle.layout.specs.Rules.{twiceArea}
 use Rattle.layout.specs.Layout.{Layout}
 use Rattle.layout.specs.declared.Entry.{Entry}
 use Rattle.layout.proofs.Slices.{four-part, number-part, entry-part}
-use Rattle.filing.specs.Given.{Given, recordings, triangles, countOf, numberOf, sumOf, sumTo, entryOf, triangleIn}
+use Rattle.filing.specs.Given.{Given, recordings, triangles, countAt, coordinateAt, sumOf, sumTo, entryOf, triangleIn}
 use Rattle.filing.specs.File.{inFour, bitsOf, entryBytes, triangleBytes, tableBytes, trailerBytes, fileLength, fileOf}
 use Rattle.filing.specs.Promise.{Ids}
 use Rattle.filing.proofs.Bytes.{four-back, signed-bits, bits-small, in-i32, entry-back}
@@ -31,9 +31,9 @@ six p q r s t u = rw (p, q, r, s, t, u) refl
 
 module _ (g : Given) where
   -- number r of triangle k
-  one-of : (k r : ℕ) → r < 6 → List·Memᴰ (numberOf g (6 * k + r)) (numbersOf (triangleIn g k))
+  one-of : (k r : ℕ) → r < 6 → List·Memᴰ (coordinateAt g (6 * k + r)) (numbersOf (triangleIn g k))
   unfolding triangleIn
-  one-of k zero h = let q : 6 * k + 0 ≡ 6 * k = omega arith in here (ap (numberOf g) q)
+  one-of k zero h = let q : 6 * k + 0 ≡ 6 * k = omega arith in here (ap (coordinateAt g) q)
   one-of k (suc zero) h = there (here refl)
   one-of k (suc (suc zero)) h = there (there (here refl))
   one-of k (suc (suc (suc zero))) h = there (there (there (here refl)))
@@ -51,7 +51,7 @@ module _ (g : Given) where
 
   pub numbers-length : length (triangleBytes g) ≡ 4 * length (g .numbers)
   unfolding triangleBytes
-  numbers-length = joined-length (λ j. inFour (bitsOf (numberOf g j))) 4 (λ j. refl) (length (g .numbers))
+  numbers-length = joined-length (λ j. inFour (bitsOf (coordinateAt g j))) 4 (λ j. refl) (length (g .numbers))
 
   pub trailer-length : length (trailerBytes g) ≡ 12
   unfolding trailerBytes
@@ -109,7 +109,7 @@ module _ (g : Given) where
           ∙ (ap (take 12) (drop-append-add (triangleBytes g) (tableBytes g ++ trailerBytes g) (12 * i))
           ∙ joined-at (λ j. entryBytes (entryOf g j)) 12 entry-twelve (recordings g) i (trailerBytes g) h))
 
-      entry-fits : (i : ℕ) → i < recordings g → (24 * sumTo g i < 4294967296) × (countOf g i < 65536)
+      entry-fits : (i : ℕ) → i < recordings g → (24 * sumTo g i < 4294967296) × (countAt g i < 65536)
       unfolding sumOf
       entry-fits i h =
           let up = sum-up g (recordings g) (suc i) (omega (arith, h)) in
@@ -128,30 +128,30 @@ module _ (g : Given) where
           ∙ (ap (entryFrom (fileOf g)) (at-zero (24 * triangles g + 12 * i)) ∙ (sym (entry-part (fileOf g) (24 * triangles g + 12 * i) 12 0 (omega arith)) ∙ (ap (λ b. entryFrom b 0) (entry-there i h) ∙ entry-read i h)))
 
       -- ---- the numbers
-      pub number-small : (j : ℕ) → j < length (g .numbers) → natAbs (numberOf g j) ≤ 1000000
+      pub number-small : (j : ℕ) → j < length (g .numbers) → natAbs (coordinateAt g j) ≤ 1000000
       number-small j h =
           let k = j / 6 in
           let q : 6 * k + j % 6 ≡ j = omega arith in
-          subst (λ n. natAbs (numberOf g n) ≤ 1000000) q (fit .inRange k (six j (length (g .numbers)) h (fit .whole)) (numberOf g (6 * k + j % 6)) (one-of k (j % 6) (omega arith)))
+          subst (λ n. natAbs (coordinateAt g n) ≤ 1000000) q (fit .inRange k (six j (length (g .numbers)) h (fit .whole)) (coordinateAt g (6 * k + j % 6)) (one-of k (j % 6) (omega arith)))
         where
           six : (j n : ℕ) → j < n → 6 * (n / 6) ≡ n → 6 * (j / 6) + 6 ≤ n
           six j n h e = omega arith
 
-      number-there : (j : ℕ) → j < length (g .numbers) → take 4 (drop (4 * j) (fileOf g)) ≡ inFour (bitsOf (numberOf g j))
+      number-there : (j : ℕ) → j < length (g .numbers) → take 4 (drop (4 * j) (fileOf g)) ≡ inFour (bitsOf (coordinateAt g j))
       unfolding triangleBytes
-      number-there j h = ap (λ b. take 4 (drop (4 * j) b)) behind-numbers ∙ joined-at (λ k. inFour (bitsOf (numberOf g k))) 4 (λ k. refl) (length (g .numbers)) j (tableBytes g ++ trailerBytes g) h
+      number-there j h = ap (λ b. take 4 (drop (4 * j) b)) behind-numbers ∙ joined-at (λ k. inFour (bitsOf (coordinateAt g k))) 4 (λ k. refl) (length (g .numbers)) j (tableBytes g ++ trailerBytes g) h
 
       number-read : (z : ℤ) → natAbs z ≤ 1000000 → i32At (inFour (bitsOf z)) 0 ≡ z
       unfolding i32At u32At
       number-read z h = let f = in-i32 z h in ap signed (four-back (bitsOf z) (bits-small z f)) ∙ signed-bits z f
 
-      pub number-is : (j : ℕ) → j < length (g .numbers) → i32At (fileOf g) (4 * j) ≡ numberOf g j
-      number-is j h = ap (i32At (fileOf g)) (at-zero (4 * j)) ∙ (sym (number-part (fileOf g) (4 * j) 4 0 (omega arith)) ∙ (ap (λ b. i32At b 0) (number-there j h) ∙ number-read (numberOf g j) (number-small j h)))
+      pub number-is : (j : ℕ) → j < length (g .numbers) → i32At (fileOf g) (4 * j) ≡ coordinateAt g j
+      number-is j h = ap (i32At (fileOf g)) (at-zero (4 * j)) ∙ (sym (number-part (fileOf g) (4 * j) 4 0 (omega arith)) ∙ (ap (λ b. i32At b 0) (number-there j h) ∙ number-read (coordinateAt g j) (number-small j h)))
 
       pub triangle-is : (k : ℕ) → 6 * k + 6 ≤ length (g .numbers) → triangleAt (fileOf g) k ≡ triangleIn g k
       unfolding triangleAt triangleFrom triangleIn
       triangle-is k h =
-          let at : (r : ℕ) → r < 6 → i32At (fileOf g) (4 * (6 * k + r)) ≡ numberOf g (6 * k + r) = λ r l. number-is (6 * k + r) (omega (arith, h, l)) in
+          let at : (r : ℕ) → r < 6 → i32At (fileOf g) (4 * (6 * k + r)) ≡ coordinateAt g (6 * k + r) = λ r l. number-is (6 * k + r) (omega (arith, h, l)) in
           six (ap (i32At (fileOf g)) (places k .0) ∙ number-is (6 * k) (omega (arith, h)))
           (ap (i32At (fileOf g)) (places k .1) ∙ at 1 (omega arith))
           (ap (i32At (fileOf g)) (places k .2) ∙ at 2 (omega arith))

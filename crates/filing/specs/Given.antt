@@ -33,17 +33,17 @@ module _ (g : Given) where
   abbrev pub triangles : ℕ
   triangles = length (g .numbers) / 6
 
-  abbrev pub idOf : ℕ → ℕ
-  idOf i = getD (g .ids) i 0
+  abbrev pub idAt : ℕ → ℕ
+  idAt i = getD (g .ids) i 0
 
-  abbrev pub countOf : ℕ → ℕ
-  countOf i = getD (g .counts) i 0
+  abbrev pub countAt : ℕ → ℕ
+  countAt i = getD (g .counts) i 0
 
-  abbrev pub setOf : ℕ → ℕ
-  setOf i = getD (g .sets) i 0
+  abbrev pub setAt : ℕ → ℕ
+  setAt i = getD (g .sets) i 0
 
-  abbrev pub numberOf : ℕ → ℤ
-  numberOf j = getD (g .numbers) j (pos 0)
+  abbrev pub coordinateAt : ℕ → ℤ
+  coordinateAt j = getD (g .numbers) j (pos 0)
 
   -- how many triangles the first i recordings have
   abbrev pub sumTo : ℕ → ℕ
@@ -52,8 +52,8 @@ module _ (g : Given) where
   -- the entry of recording i: its triangles begin where those of the recordings before it end
   unfoldable pub entryOf : ℕ → Entry
   unfolding sumOf
-  entryOf i = entryBy (idOf i) (24 * sumTo i) (countOf i) (setOf i)
+  entryOf i = entryBy (idAt i) (24 * sumTo i) (countAt i) (setAt i)
 
   -- triangle k: its six numbers
   unfoldable pub triangleIn : ℕ → Triangle
-  triangleIn k = triangleOf (numberOf (6 * k)) (numberOf (6 * k + 1)) (numberOf (6 * k + 2)) (numberOf (6 * k + 3)) (numberOf (6 * k + 4)) (numberOf (6 * k + 5))
+  triangleIn k = triangleOf (coordinateAt (6 * k)) (coordinateAt (6 * k + 1)) (coordinateAt (6 * k + 2)) (coordinateAt (6 * k + 3)) (coordinateAt (6 * k + 4)) (coordinateAt (6 * k + 5))

@@ -8,10 +8,9 @@ use Rattle.layout.specs.Bytes.{Bytes, i32At}
 use Rattle.layout.specs.Parts.{countOf as countIn}
 use Rattle.layout.specs.Verdict.{verdict, good}
 use Rattle.layout.specs.Recordings.{recordingOf, recordingBy, noRecording, noSuch, partOf}
-use Rattle.filing.specs.Given.{Given, recordings, countOf, numberOf, sumTo, entryOf}
+use Rattle.filing.specs.Given.{Given, recordings, countAt, coordinateAt, sumTo, entryOf}
 use Rattle.filing.specs.File.{fileLength, fileOf}
-use Rattle.filing.specs.Refusals.{Row}
-use Rattle.filing.specs.Refusals as refusals
+use Rattle.filing.specs.Refusals.{Row, numberOf}
 use Rattle.filing.specs.Rows.{Applies, First}
 use Rattle.filing.specs.Written.{written}
 use Rattle.filing.specs.Taken.{takenFrom}
@@ -27,7 +26,7 @@ NoSecondWrite = (g : Given) (room : List ℕ) (r s : Written) (a b : List ℕ) �
 
 pub record WriteDemand1 (g : Given) (room : List ℕ) (result : Written) (after : List ℕ) : Type 0 where
   -- a refusal's number exactly if it is that of the first row that applies, 0 exactly if none does
-  pub refusedBy : (n : ℕ) → ((result .number ≡ n) × (n ≡ 0 → ⊥)) ↔ ((row : Row) × First g (length room) row × (refusals.numberOf row ≡ n))
+  pub refusedBy : (n : ℕ) → ((result .number ≡ n) × (n ≡ 0 → ⊥)) ↔ ((row : Row) × First g (length room) row × (numberOf row ≡ n))
   pub accepted : (result .number ≡ 0) ↔ ((row : Row) → Applies g (length room) row → ⊥)
   pub numbers : (result .number ≡ 0 → ⊥) → (13 ≤ result .number) × (result .number ≤ 19)
   -- the place is 0 always; with a refusal comes the length 0, and the room is as it was
@@ -56,8 +55,8 @@ pub record SameRecordings (g : Given) (file : List ℕ) : Type 0 where
   -- recording i has the id, the count and the set that were given, its triangles begin where those before it end, and its last byte is zero
   pub recording : (i : ℕ) → i < recordings g → recordingOf file i ≡ recordingBy (entryOf g i)
   -- its part has 24 bytes for each of its triangles, which are, number by number, those that follow the triangles of the recordings before it
-  pub partLength : (i : ℕ) → i < recordings g → length (partOf file i) ≡ 24 * countOf g i
-  pub partNumbers : (i : ℕ) → i < recordings g → (j : ℕ) → j < 6 * countOf g i → i32At (partOf file i) (4 * j) ≡ numberOf g (6 * sumTo g i + j)
+  pub partLength : (i : ℕ) → i < recordings g → length (partOf file i) ≡ 24 * countAt g i
+  pub partNumbers : (i : ℕ) → i < recordings g → (j : ℕ) → j < 6 * countAt g i → i32At (partOf file i) (4 * j) ≡ coordinateAt g (6 * sumTo g i + j)
   -- so the lists that were given are those that the reader got
   pub lists : takenFrom file ≡ g
 

@@ -5,7 +5,7 @@ use mathlib.Core.List.{List, [], _∷_}
 use lib.ListN.{length, getD}
 use lib.Dec.{eqb, ltb}
 use Rattle.layout.specs.Rules.{isSeen, entryRule, triangleRule}
-use Rattle.filing.specs.Given.{Given, recordings, triangles, idOf, sumOf, sumTo, entryOf, triangleIn}
+use Rattle.filing.specs.Given.{Given, recordings, triangles, idAt, sumOf, sumTo, entryOf, triangleIn}
 use Rattle.filing.specs.File.{fileLength}
 
 -- the rows of the table; those of entries and triangles are rows of each entry and each triangle
@@ -55,7 +55,7 @@ module _ (g : Given) where
   -- 14, 16 or 0: recording i's entry by the reader's rule, behind entries that end where it begins
   unfoldable pub entryNumber : ℕ → ℕ
   unfolding entryRule entryOf isSeen idsBefore
-  entryNumber i = entryRule (entryOf g i) (24 * sumTo g i) (isSeen (idOf g i) (idsBefore (g .ids) i))
+  entryNumber i = entryRule (entryOf g i) (24 * sumTo g i) (isSeen (idAt g i) (idsBefore (g .ids) i))
 
   -- 15 in file order: the counts don't add up to the triangles
   abbrev pub isWrongSum : Bool

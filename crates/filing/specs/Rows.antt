@@ -5,7 +5,7 @@ use mathlib.Core.Logic.{_⊎_, _↔_}
 use lib.ListN.{length}
 use Rattle.floats.specs.Turns.{EarlierBy, FirstBy}
 use Rattle.layout.specs.Rows.{BadEntry, IdSeen, OutOfRange, Flat}
-use Rattle.filing.specs.Given.{Given, recordings, triangles, idOf, sumTo, entryOf, triangleIn}
+use Rattle.filing.specs.Given.{Given, recordings, triangles, idAt, sumTo, entryOf, triangleIn}
 use Rattle.filing.specs.File.{fileLength}
 use Rattle.filing.specs.Refusals.{Row, unequal, badEntry, idAgain, wrongSum, outOfRange, flat, tooMany, noRoom, numberOf, refusal}
 
@@ -17,7 +17,7 @@ Unequal g = (length (g .counts) ≡ length (g .ids) → ⊥) ⊎ (length (g .set
 abbrev pub Applies : Given → ℕ → Row → Type 0
 Applies g room unequal = Unequal g
 Applies g room (badEntry i) = (i < recordings g) × BadEntry (entryOf g i) (24 * sumTo g i)
-Applies g room (idAgain i) = (i < recordings g) × IdSeen (idOf g) i
+Applies g room (idAgain i) = (i < recordings g) × IdSeen (idAt g) i
 Applies g room wrongSum = sumTo g (recordings g) ≡ triangles g → ⊥
 Applies g room (outOfRange k) = (6 * k + 6 ≤ length (g .numbers)) × OutOfRange (triangleIn g k)
 Applies g room (flat k) = (6 * k + 6 ≤ length (g .numbers)) × Flat (triangleIn g k)
