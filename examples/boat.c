@@ -113,14 +113,17 @@ static meskelow_written write_lists(const char *what)
     return written;
 }
 
+/* Whether the file was kept under this name. What is there if it was not may be cut off, and is not to be used. */
 static bool keep(const char *name, size_t length)
 {
     FILE *stream = fopen(name, "wb");
     bool whole = stream != NULL && fwrite(file, 1, length, stream) == length;
-    if (stream != NULL && fclose(stream) != 0)
-        whole = false;
     if (!whole)
         perror(name);
+    if (stream != NULL && fclose(stream) != 0 && whole) {
+        perror(name);
+        whole = false;
+    }
     return whole;
 }
 
@@ -137,7 +140,11 @@ int main(int argc, char **argv)
     if (argc > 1 && !keep(argv[1], written.length))
         return 3;
 
-    meskelow_list list = meskelow_leaks(file, written.length, room, sizeof room); /* what was written is never refused */
+    meskelow_list list = meskelow_leaks(file, written.length, room, sizeof room);
+    if (list.number != 0) { /* not of what was written: no list must never look like a clean one */
+        fprintf(stderr, "the list is refused: %" PRIu32 " at %" PRIu32 "\n", list.number, list.place);
+        return 2;
+    }
     fwrite(room, 1, list.length, stdout);
     if (fflush(stdout) != 0 || ferror(stdout)) { /* what has been printed is no whole list */
         perror("standard output");

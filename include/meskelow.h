@@ -98,9 +98,9 @@ enum { /* refusals.tsv: file */
                                           * and 12 for the trailer do not add up to the length (place: the trailer) */
     MESKELOW_REFUSED_ENTRY = 14,         /* an entry has no triangles, a set over 2 or a last byte that is not 0, or in a file
                                           * does not begin where the one before ends, the first at 0 (place: the entry) */
-    MESKELOW_REFUSED_TABLE = 15,         /* the counts do not add up to the triangles, which in a file end at the table; or
-                                          * lists to be written differ in length or break off within a triangle (place: the
-                                          * table) */
+    MESKELOW_REFUSED_TABLE = 15,         /* the last triangle does not end at the table, or there are no recordings and the
+                                          * table is not at 0; of lists to be written: their lengths differ, a triangle is
+                                          * broken off, or the counts do not add up to the triangles (place: the table) */
     MESKELOW_REFUSED_SAME_ID = 16,       /* an entry has the id of an earlier one (place: the entry) */
     MESKELOW_REFUSED_OUT_OF_RANGE = 17,  /* a coordinate is out of range, which is -1,000,000 to 1,000,000 (place: the
                                           * triangle) */

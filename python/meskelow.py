@@ -218,12 +218,14 @@ def recordings(file: Bytes) -> Iterator[Recording]:
 
 
 def write(recordings: Iterable[Draft]) -> bytes:
-    """The footprint file with these recordings, in their order. `check` accepts it, and `recordings` of it gives them back; and
-    `write(recordings(file))` are the bytes of the file.
+    """The footprint file with these recordings, in their order. `check` accepts it, and the function `recordings` gives their ids,
+    sets and triangles back; and `write(recordings(file))` are the bytes of the file. What is iterated is gone through once: of an
+    iterator that was used up before there are no recordings left, and the file is the one without any, of 12 bytes.
 
     Each recording is taken by its id, set and triangles. Where it begins is the file's own, so `first` is not looked at. Ids, sets
     and coordinates are whole numbers as indexes of lists are: True is 1, and 1.0 is a TypeError. An id that is not from 0 to
-    2^32 - 1 is an OverflowError. These errors are raised before anything is judged.
+    2^32 - 1 is an OverflowError. These errors are raised before anything is judged; but the coordinates of a triangle that is
+    refused for its shape are not looked at.
 
     Raises `Refused` with place 0, for the first of these that applies: 15 for a triangle that is not three vertices with two
     coordinates each; for recording after recording 14, which is one without triangles, a set over 2 or below 0 or a `last` that is
@@ -238,7 +240,7 @@ def write(recordings: Iterable[Draft]) -> bytes:
         count = 0
         for triangle in draft.triangles:
             if len(triangle) == 3 and all(len(vertex) == 2 for vertex in triangle):
-                coordinates.extend(_centimetres(c) for vertex in triangle for c in vertex)
+                coordinates.extend(_centimetres(triangle[i][k]) for i in range(3) for k in range(2))
             else:
                 whole = False
             count += 1

@@ -518,7 +518,7 @@ class Writing(Case):
         for draft in (None, 7, "7", (7, 0, [V]), {"id": 7, "set": 0, "triangles": [V]}, types.SimpleNamespace(id=7, set=0)):
             with self.subTest(draft=draft), self.assertRaises(AttributeError):
                 meskelow.write([draft])
-        for triangles in (None, 1, [1], [None], [[0, 0, 1]], [iter(V)], [[iter((0, 0)), (4, 0), (0, 4)]]):
+        for triangles in (None, 1, [1], [None], [[0, 0, 1]], [iter(V)], [[iter((0, 0)), (4, 0), (0, 4)]], [[{7, 9}, (4, 0), (0, 4)]], [set(V)]):
             with self.subTest(triangles=triangles), self.assertRaises(TypeError):
                 meskelow.write([own(7, 0, triangles)])
 

@@ -13,7 +13,8 @@ use Rattle.filing.specs.Given.{givenOf, sumOf, triangles, entryOf}
 use Rattle.filing.specs.File.{inFour, numberBytes, triangleBytes, tableBytes, trailerBytes, fileOf}
 use Rattle.filing.specs.Refusals.{refusal}
 use Rattle.filing.specs.Promise.{WritePromise}
-use Rattle.filing.proofs.Fit.{Fit, fits}
+use Rattle.filing.specs.Fit.{Fit}
+use Rattle.filing.proofs.Fit.{fits}
 use Rattle.filing.proofs.Read.{table-length, numbers-length, trailer-length, file-length}
 use Rattle.filing.proofs.Returned.{is-refused, is-written}
 

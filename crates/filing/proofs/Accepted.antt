@@ -1,4 +1,4 @@
--- 02, No. 2, first statement: what is written is accepted by the reader and yields the same recordings. Assumes nothing.
+-- 02, No. 2, first statement: the reader takes whatever was written, and finds in it what was given. Assumes nothing.
 use Prim.Native.Nat.{ℕ, suc, _+_, _*_, _/_, _<_}
 use mathlib.Core.Path.{_≡_, refl, sym, ap, _∙_}
 use mathlib.Core.List.{List}
@@ -16,7 +16,8 @@ use Rattle.filing.specs.Given.{Given, givenOf, recordings, countAt, coor
 use Rattle.filing.specs.File.{fileOf}
 use Rattle.filing.specs.Taken.{listed, takenFrom}
 use Rattle.filing.specs.Promise.{Ids, SameRecordings}
-use Rattle.filing.proofs.Fit.{Fit, sum-up}
+use Rattle.filing.specs.Fit.{Fit}
+use Rattle.filing.proofs.Fit.{sum-up}
 use Rattle.filing.proofs.Read.{table-is, count-is, entry-is, number-is, has-layout}
 use Rattle.filing.proofs.Taken.{listed-all, numbers-are}
 

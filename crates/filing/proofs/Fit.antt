@@ -1,34 +1,19 @@
 -- What lists are like that are not refused, fact by fact; and lists that are like that are not refused. Assumes nothing.
-use Prim.Native.Nat.{ℕ, zero, suc, _+_, _*_, _/_, _<_, _≤_}
+use Prim.Native.Nat.{ℕ, zero, suc, _<_, _≤_}
 use mathlib.Core.Path.{_≡_, refl}
 use mathlib.Core.Logic.{_⊎_, inl, inr, ⊎-elim}
-use mathlib.Core.List.{List·Memᴰ}
 use native.Mathlib.Omega.{arith}
 use native.Mathlib.Nat.{eq-zero-or-pos, eq-or-lt-of-le}
-use lib.IntN.{ℤ, pos, natAbs}
+use lib.IntN.{natAbs}
 use lib.ListN.{length}
-use Rattle.layout.specs.Parts.{numbersOf}
-use Rattle.layout.specs.Rules.{twiceArea}
 use Rattle.layout.proofs.Accepted.{same, at-most}
-use Rattle.filing.specs.Given.{Given, recordings, triangles, idAt, countAt, setAt, sumOf, sumTo, entryOf, triangleIn}
+use Rattle.filing.specs.Given.{Given, recordings, triangles, countAt, setAt, sumOf, sumTo, entryOf}
 use Rattle.filing.specs.File.{fileLength}
 use Rattle.filing.specs.Refusals.{Row, unequal, badEntry, idAgain, wrongSum, outOfRange, flat, tooMany, noRoom, refusal}
 use Rattle.filing.specs.Rows.{Applies}
+use Rattle.filing.specs.Fit.{Fit, WrittenExactlyIf, EntryPlainly}
+use Rattle.filing.proofs.Order.{sixes}
 use Rattle.filing.proofs.Rows.{exactly-when}
-
-pub record Fit (g : Given) (room : ℕ) : Type 0 where
-  pub counts : length (g .counts) ≡ recordings g
-  pub sets : length (g .sets) ≡ recordings g
-  pub whole : 6 * triangles g ≡ length (g .numbers)
-  pub someTriangles : (i : ℕ) → i < recordings g → 0 < countAt g i
-  pub knownSet : (i : ℕ) → i < recordings g → setAt g i ≤ 2
-  pub idsOnce : (i j : ℕ) → i < j → j < recordings g → idAt g i ≡ idAt g j → ⊥
-  pub sum : sumTo g (recordings g) ≡ triangles g
-  pub inRange : (k : ℕ) → 6 * k + 6 ≤ length (g .numbers) → (z : ℤ) → List·Memᴰ z (numbersOf (triangleIn g k)) → natAbs z ≤ 1000000
-  pub someArea : (k : ℕ) → 6 * k + 6 ≤ length (g .numbers) → twiceArea (triangleIn g k) ≡ pos 0 → ⊥
-  pub atMost64 : recordings g ≤ 64
-  pub atMost65536 : fileLength g ≤ 65536
-  pub inRoom : fileLength g ≤ room
 
 module _ (g : Given) (room : ℕ) where
   pub fits : refusal g room ≡ 0 → Fit g room
@@ -37,7 +22,7 @@ module _ (g : Given) (room : ℕ) where
       let none = exactly-when g room .accepted .0 h in record {
         counts = same _ _ (λ n. none unequal (inl n));
         sets = same _ _ (λ n. none unequal (inr (inl n)));
-        whole = same _ _ (λ n. none unequal (inr (inr (λ t e. n (exact t (length (g .numbers)) e)))));
+        whole = same _ _ (λ n. none unequal (inr (inr (λ t e. n (sixes t (length (g .numbers)) e)))));
         someTriangles = λ i l. ⊎-elim (λ z. absurd (none (badEntry i) (l, inl z))) (λ p. p) (eq-zero-or-pos (countAt g i));
         knownSet = λ i l. at-most (setAt g i) 2 (λ m. none (badEntry i) (l, inr (inl m)));
         idsOnce = λ i j l m q. none (idAgain j) (m, (i, l, q));
@@ -48,9 +33,6 @@ module _ (g : Given) (room : ℕ) where
         atMost65536 = at-most (fileLength g) 65536 (λ l. none noRoom (inr l));
         inRoom = at-most (fileLength g) room (λ l. none noRoom (inl l));
       }
-    where
-      exact : (t n : ℕ) → 6 * t ≡ n → 6 * (n / 6) ≡ n
-      exact t n e = omega arith
 
   no-row : Fit g room → (row : Row) → Applies g room row → ⊥
   unfolding entryOf
@@ -71,6 +53,24 @@ module _ (g : Given) (room : ℕ) where
 
   pub not-refused : Fit g room → refusal g room ≡ 0
   not-refused f = exactly-when g room .accepted .1 (no-row f)
+
+pub written-exactly-if : WrittenExactlyIf
+written-exactly-if g room = (fits g room, not-refused g room)
+
+-- the reader's other two reasons for 14 do not occur
+pub entry-plainly : EntryPlainly
+unfolding entryOf
+entry-plainly g room i = (to, from)
+  where
+    to : Applies g room (badEntry i) → (i < recordings g) × ((countAt g i ≡ 0) ⊎ (2 < setAt g i))
+    to (h, inl c) = (h, inl c)
+    to (h, inr (inl c)) = (h, inr c)
+    to (h, inr (inr (inl c))) = absurd (c refl)
+    to (h, inr (inr (inr c))) = absurd (c refl)
+
+    from : (i < recordings g) × ((countAt g i ≡ 0) ⊎ (2 < setAt g i)) → Applies g room (badEntry i)
+    from (h, inl c) = (h, inl c)
+    from (h, inr c) = (h, inr (inl c))
 
 -- the sums go up to the last one
 pub sum-up : (g : Given) (n i : ℕ) → i ≤ n → sumTo g i ≤ sumTo g n

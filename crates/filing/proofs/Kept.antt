@@ -1,4 +1,4 @@
--- 02, No. 2, second statement: writing what the reader got from an accepted file gives its very bytes. Its lists are not refused, and the bytes of each number, each entry and the trailer are those that were read. Assumes nothing.
+-- 02, No. 2, second statement: the lists that the reader finds in a good file make that file again. They are not refused, and the bytes of each number, each entry and the trailer are those that were read. Assumes nothing.
 use Prim.Native.Nat.{ℕ, zero, suc, _+_, _-_, _*_, _/_, _<_, _≤_}
 use mathlib.Core.Path.{_≡_, refl, sym, ap, ap₂, subst, _∙_}
 use mathlib.Core.List.{List, _++_, List·Memᴰ}
@@ -18,7 +18,7 @@ use Rattle.filing.specs.Taken.{takenFrom}
 use Rattle.filing.proofs.Bytes.{four-kept, bits-kept, entry-kept, three-kept}
 use Rattle.filing.proofs.Joined.{joined-front}
 use Rattle.filing.proofs.Read.{places, six}
-use Rattle.filing.proofs.Fit.{Fit}
+use Rattle.filing.specs.Fit.{Fit}
 use Rattle.filing.proofs.Taken.{listed-length, listed-at, numbers-are, table-whole, id-is, count-is, set-is, taken-lengths}
 
 module _ (file : List ℕ) (l : Layout file) where

@@ -9,7 +9,7 @@ use lib.Dec.{T, eqb}
 use borrow.Author.Tests.{ne-eqb}
 use lib.ListN.{length}
 use Rattle.floats.specs.Turns.{inTurn}
-use Rattle.floats.proofs.Turns.{turn-listed, turn-members, Sorted, turn-sorted, turn-stage}
+use Rattle.floats.proofs.Turns.{turn-listed, turn-members, Sorted, turn-sorted, turn-stage, late}
 use Rattle.layout.specs.Rules.{isBadEntry, isSeen, isOutOfRange, isFlat, entryRule, triangleRule}
 use Rattle.layout.proofs.Tests.{Tells, less, other, either, both, only, entry-test, range-test, flat-test, seen-test}
 use Rattle.filing.specs.Given.{Given, recordings, triangles, idAt, sumOf, sumTo, entryOf, triangleIn}
@@ -30,6 +30,10 @@ in-table noRoom = (omega arith, omega arith)
 
 pub nonzero : (row : Row) → numberOf row ≡ 0 → ⊥
 nonzero row e = omega (arith, in-table row .0)
+
+-- six times as many as fit are all of them, if they are some number of sixes
+pub sixes : (t n : ℕ) → 6 * t ≡ n → 6 * (n / 6) ≡ n
+sixes t n e = omega arith
 
 module _ (g : Given) (room : ℕ) where
   -- the row's test
@@ -112,10 +116,7 @@ module _ (g : Given) (room : ℕ) where
   whole-test : Tells (not (eqb (6 * triangles g) (length (g .numbers)))) ((t : ℕ) → 6 * t ≡ length (g .numbers) → ⊥)
   whole-test =
       let w = other (6 * triangles g) (length (g .numbers)) in
-      ((λ h t e. w .0 h (exact t (length (g .numbers)) e)), (λ h. w .1 (h (triangles g))))
-    where
-      exact : (t n : ℕ) → 6 * t ≡ n → 6 * (n / 6) ≡ n
-      exact t n e = omega arith
+      ((λ h t e. w .0 h (sixes t (length (g .numbers)) e)), (λ h. w .1 (h (triangles g))))
 
   seen-before : (i id : ℕ) → Tells (isSeen id (idsBefore (g .ids) i)) ((j : ℕ) × (j < i) × (idAt g j ≡ id))
   unfolding idsBefore
@@ -188,12 +189,9 @@ module _ (g : Given) (room : ℕ) where
   pub exists : (row : Row) → List·Memᴰ row rows → Exists row
   exists = each Exists tt (λ i h. (h, h)) tt (λ k h. (h, h)) tt tt
 
-  late : (e a : Row) (m : ℕ) {behind : List Row} → m < stageOf a → List·Memᴰ e (a ∷ behind) → (List·Memᴰ e behind → m < stageOf e) → m < stageOf e
-  late e a m h k rest = ⊎-elim (λ (q : e ≡ a). subst (λ r. m < stageOf r) (sym q) h) rest (List·Memᴰ·cases-cons k)
-
   last-late : (e : Row) → List·Memᴰ e last → 3 < stageOf e
   unfolding last
-  last-late e k = late e tooMany 3 (omega arith) k (λ k1. late e noRoom 3 (omega arith) k1 (λ k2. absurd (List·Memᴰ·not-nil k2)))
+  last-late e k = late stageOf turnOf e tooMany 3 (omega arith) k (λ k1. late stageOf turnOf e noRoom 3 (omega arith) k1 (λ k2. absurd (List·Memᴰ·not-nil k2)))
 
   triangles-late : (e : Row) → List·Memᴰ e triangleRows → 2 < stageOf e
   unfolding triangleRows
@@ -203,7 +201,7 @@ module _ (g : Given) (room : ℕ) where
       (List·Memᴰ·append-cases (inTurn outOfRange flat (triangles g) 0) k)
 
   tail-late : (e : Row) → List·Memᴰ e (wrongSum ∷ triangleRows) → 1 < stageOf e
-  tail-late e k = late e wrongSum 1 (omega arith) k (λ k1. let q = triangles-late e k1 in omega (arith, q))
+  tail-late e k = late stageOf turnOf e wrongSum 1 (omega arith) k (λ k1. let q = triangles-late e k1 in omega (arith, q))
 
   table-late : (e : Row) → List·Memᴰ e (inTurn badEntry idAgain (recordings g) 0 ++ (wrongSum ∷ triangleRows)) → 0 < stageOf e
   table-late e k = ⊎-elim
@@ -214,7 +212,7 @@ module _ (g : Given) (room : ℕ) where
   pub sorted : Sorted stageOf turnOf rows
   unfolding rows triangleRows last
   sorted =
-      let end : Sorted stageOf turnOf last = ((λ e k. inl (late e noRoom 4 (omega arith) k (λ k1. absurd (List·Memᴰ·not-nil k1)))), ((λ e k. absurd (List·Memᴰ·not-nil k)), tt)) in
+      let end : Sorted stageOf turnOf last = ((λ e k. inl (late stageOf turnOf e noRoom 4 (omega arith) k (λ k1. absurd (List·Memᴰ·not-nil k1)))), ((λ e k. absurd (List·Memᴰ·not-nil k)), tt)) in
       let third = turn-sorted stageOf turnOf outOfRange flat 3 (λ i. (refl, refl)) (λ i. (refl, refl)) (triangles g) 0 last last-late end in
       let second = turn-sorted stageOf turnOf badEntry idAgain 1 (λ i. (refl, refl)) (λ i. (refl, refl)) (recordings g) 0 (wrongSum ∷ triangleRows) tail-late ((λ e k. inl (triangles-late e k)), third) in
       ((λ e k. inl (table-late e k)), second)

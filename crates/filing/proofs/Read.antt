@@ -17,7 +17,8 @@ use Rattle.filing.specs.File.{inFour, bitsOf, entryBytes, triangleBytes,
 use Rattle.filing.specs.Promise.{Ids}
 use Rattle.filing.proofs.Bytes.{four-back, signed-bits, bits-small, in-i32, entry-back}
 use Rattle.filing.proofs.Joined.{joined-length, joined-at}
-use Rattle.filing.proofs.Fit.{Fit, sum-up}
+use Rattle.filing.specs.Fit.{Fit}
+use Rattle.filing.proofs.Fit.{sum-up}
 
 at-zero : (n : ℕ) → n ≡ n + 0
 at-zero n = omega arith

@@ -10,8 +10,9 @@ use Rattle.floats.specs.Lists.{all}
 use Rattle.floats.proofs.Lists.{all-at, sameList, same-list}
 use Rattle.text.specs.declared.Written.{Written}
 use Rattle.filing.specs.Written.{written}
-use Rattle.filing.specs.Taken.{listed}
-use Rattle.filing.specs.Worked.{Case, Shown, again, cases}
+use Rattle.layout.specs.Recordings.{recordingOf}
+use Rattle.filing.specs.Taken.{listed, takenFrom}
+use Rattle.filing.specs.Worked.{Case, Shown, again, cases, TakenFromExample}
 
 sameWritten : Written → Written → Bool
 sameWritten a b = eqb (a .number) (b .number) && (eqb (a .place) (b .place) && eqb (a .length) (b .length))
@@ -51,3 +52,7 @@ worked c m =
     let A = sameWritten (w .result) (c .says) in
     let B = sameBytes (w .room) (c .after) in
     record { says = same-written (w .result) (c .says) (and-l A B t); after = same-list eqb eqb→eq (w .room) (c .after) (and-r A B t) }
+
+pub taken-from-example : TakenFromExample
+unfolding takenFrom recordingOf
+taken-from-example = refl

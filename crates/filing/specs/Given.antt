@@ -1,4 +1,4 @@
--- 02, No. 2: what is given to the writer, lists of id, count and set and the triangles' i32 numbers, and which recordings and triangles these are. Definitions only.
+-- 02, No. 2: what a writer is handed, three lists with an entry for each recording and one of the triangles' coordinates, and which recordings and triangles these are. Definitions only.
 use Prim.Native.Nat.{ℕ, zero, suc, _+_, _*_, _/_}
 use mathlib.Core.List.{List}
 use lib.ListN.{length, getD}

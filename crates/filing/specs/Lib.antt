@@ -2,6 +2,7 @@ pub mod Given
 pub mod File
 pub mod Refusals
 pub mod Rows
+pub mod Fit
 pub mod Written
 pub mod Taken
 pub mod Promise

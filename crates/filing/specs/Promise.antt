@@ -46,7 +46,7 @@ WriteReturned = (g : Given) (room : List ℕ) (result : Written) (after : List �
 abbrev pub Ids : List ℕ → Type 0
 Ids ids = (k : ℕ) → getD ids k 0 < 4294967296
 
--- the reader accepts these bytes and gets the recordings that were given
+-- the reader takes these bytes for a good file, and finds in it what was given
 pub record SameRecordings (g : Given) (file : List ℕ) : Type 0 where
   pub accepted : verdict file ≡ good
   -- as many recordings as ids, and no more
@@ -60,10 +60,10 @@ pub record SameRecordings (g : Given) (file : List ℕ) : Type 0 where
   -- so the lists that were given are those that the reader got
   pub lists : takenFrom file ≡ g
 
--- what is written is accepted by the reader and yields the same recordings
+-- the first statement: whatever was written, the reader takes it and finds in it what was given
 abbrev pub WrittenIsAccepted : Type 0
 WrittenIsAccepted = (g : Given) (room : List ℕ) (result : Written) (after : List ℕ) → Ids (g .ids) → WritePromise g room result after → result .number ≡ 0 → SameRecordings g (take (result .length) after)
 
--- writing what the reader got from an accepted file gives its very bytes, in any room that holds them
+-- the second: from the lists that the reader finds in a good file the writer makes that file again, byte for byte, in any room that holds it
 abbrev pub VeryBytes : Type 0
 VeryBytes = (file room : List ℕ) (result : Written) (after : List ℕ) → Bytes file → verdict file ≡ good → length file ≤ length room → WritePromise (takenFrom file) room result after → (result .number ≡ 0) × (result .length ≡ length file) × (take (result .length) after ≡ file)

@@ -57,7 +57,7 @@ module _ (g : Given) where
   unfolding entryRule entryOf isSeen idsBefore
   entryNumber i = entryRule (entryOf g i) (24 * sumTo g i) (isSeen (idAt g i) (idsBefore (g .ids) i))
 
-  -- 15 in file order: the counts don't add up to the triangles
+  -- 15 between the entries and the triangles: the sum of all counts is another than that of the triangles
   abbrev pub isWrongSum : Bool
   isWrongSum = not (eqb (sumTo g (recordings g)) (triangles g))
 
@@ -70,7 +70,7 @@ module _ (g : Given) where
   abbrev pub isTooMany : Bool
   isTooMany = ltb 64 (recordings g)
 
-  -- 19: the room is shorter than the file, or the file would pass 65,536
+  -- 19: there is less room than the file takes, or it would be longer than a file may be
   abbrev pub hasNoRoom : ℕ → Bool
   hasNoRoom room = ltb room (fileLength g) || ltb 65536 (fileLength g)
 

@@ -8,7 +8,7 @@ use Rattle.layout.specs.Worked.{trailer, pairOf, example, double, v as vBytes, 
 use Rattle.text.specs.declared.Written.{Written}
 use Rattle.filing.specs.Given.{Given, givenOf}
 use Rattle.filing.specs.Written.{written}
-use Rattle.filing.specs.Taken.{listed}
+use Rattle.filing.specs.Taken.{listed, takenFrom}
 
 -- lists and the length of a room of points, 46; what is said, and the room afterwards
 pub record Case : Type 0 where
@@ -96,10 +96,12 @@ cases =
     -- 16, of an id that is not the previous one too, and before 15
     ∷ refusedLists (givenOf (7 ∷ 9 ∷ 7 ∷ []) (1 ∷ 1 ∷ 1 ∷ []) (0 ∷ 1 ∷ 0 ∷ []) (v ++ (u ++ v))) 200 16
     ∷ refusedLists (givenOf (7 ∷ 7 ∷ []) (1 ∷ 5 ∷ []) (0 ∷ 1 ∷ []) (v ++ u)) 84 16
-    -- 15 by the counts: one too few, one too many, right but for 2^32, no recordings; before 17 and 18
+    -- 15 by the counts: one too few, one too many, right but for 2^32, for 2^16, and for 24 times it in 32 bits, no recordings; before 17 and 18
     ∷ refusedLists (counted 1 2) 84 15
     ∷ refusedLists (givenOf (7 ∷ []) (1 ∷ []) (0 ∷ []) (v ++ u)) 84 15
     ∷ refusedLists (counted 4294967295 3) 84 15
+    ∷ refusedLists (givenOf (7 ∷ []) (65537 ∷ []) (0 ∷ []) v) 84 15
+    ∷ refusedLists (givenOf (7 ∷ []) (536870913 ∷ []) (0 ∷ []) v) 84 15
     ∷ refusedLists (givenOf [] [] [] (above ++ onALine)) 84 15
     ∷ refusedLists (givenOf (7 ∷ []) (3 ∷ []) (0 ∷ []) (above ++ onALine)) 84 15
     -- 17 at either end and of the least i32, 18, 17 before 18, and the first triangle before the second
@@ -114,8 +116,16 @@ cases =
     ∷ refusedLists (many 64 64 onALine) 0 18
     ∷ refusedLists (many 64 64 v) 0 13
     ∷ refusedLists (many 64 64 v) 3000 13
+    -- 66 recordings: an id again, a set that there is not and a count of zero behind the 65th, each before 13
+    ∷ refusedLists (many 65 64 v) 0 16
+    ∷ refusedLists (givenOf (listed (λ i. i) 66) (replicate 66 1) (replicate 65 2 ++ (3 ∷ [])) (again 66)) 0 14
+    ∷ refusedLists (givenOf (listed (λ i. i) 66) (replicate 65 1 ++ (0 ∷ [])) (replicate 66 2) (again 65)) 0 14
     -- 64 recordings are not too many: 19 in a room of 2,315 bytes, one too few
     ∷ refusedLists (many 63 63 v) 2315 19
     -- a room that is a byte too short
     ∷ refusedLists (two (v ++ u)) 83 19
     ∷ []
+
+-- what the reader got from 01's example
+abbrev pub TakenFromExample : Type 0
+TakenFromExample = takenFrom example ≡ two (v ++ u)

@@ -93,6 +93,10 @@ module _ {Row : Type 0} (stageOf turnOf : Row → ℕ) where
     pub turn-stage : (m i : ℕ) (row : Row) → List·Memᴰ row (inTurn first second m i) → stageOf row ≡ stage
     turn-stage m i = turn-members first second m i (λ row. stageOf row ≡ stage) (λ j p q. (f j .0, s j .0))
 
+  -- a row that stands at the front of a list or behind it comes after a stage
+  pub late : (e a : Row) (m : ℕ) {behind : List Row} → m < stageOf a → List·Memᴰ e (a ∷ behind) → (List·Memᴰ e behind → m < stageOf e) → m < stageOf e
+  late e a m h k rest = ⊎-elim (λ (q : e ≡ a). subst (λ r. m < stageOf r) (sym q) h) rest (List·Memᴰ·cases-cons k)
+
   -- what stands behind a row of a sorted list comes after it
   behind : (before : List Row) (row : Row) (after : List Row) → Sorted (before ++ (row ∷ after)) → (e : Row) → List·Memᴰ e after → Earlier row e
   behind [] row after s e k = s .0 e k

@@ -5,7 +5,7 @@ use mathlib.Core.Logic.{_⊎_, inl, inr, ⊎-elim}
 use mathlib.Core.List.{List, [], _∷_, _++_, List·Memᴰ, List·Memᴰ·head as here, List·Memᴰ·tail as there, List·Memᴰ·cases-cons, List·Memᴰ·not-nil, Memᴰ·append-left, Memᴰ·append-right, List·Memᴰ·append-cases, append-nil}
 use native.Mathlib.Omega.{arith}
 use Rattle.floats.specs.Turns.{inTurn}
-use Rattle.floats.proofs.Turns.{turn-listed, turn-members, Sorted, turn-sorted, turn-stage}
+use Rattle.floats.proofs.Turns.{turn-listed, turn-members, Sorted, turn-sorted, turn-stage, late}
 use Rattle.layout.specs.Parts.{tablePlace, countOf, trianglesOf}
 use Rattle.layout.specs.Verdict.{Row, badLength, otherLength, badTrailer, badEntry, idAgain, wrongEnd, outOfRange, flat, rows}
 use Rattle.layout.specs.Rows.{stageOf, turnOf}
@@ -106,9 +106,6 @@ module _ (file : List ℕ) where
   rest-late : (e : Row) → List·Memᴰ e (entries ++ (wrongEnd ∷ triangles)) → 2 < stageOf e
   rest-late e k = ⊎-elim (λ w. let q = entry-stage e w in omega arith) (λ w. let q = tail-late e w in omega arith) (List·Memᴰ·append-cases entries k)
 
-  late : (e a : Row) (m : ℕ) {behind : List Row} → m < stageOf a → List·Memᴰ e (a ∷ behind) → (List·Memᴰ e behind → m < stageOf e) → m < stageOf e
-  late e a m h k rest = ⊎-elim (λ (q : e ≡ a). subst (λ r. m < stageOf r) (sym q) h) rest (List·Memᴰ·cases-cons k)
-
   tail-sorted : Sorted stageOf turnOf (wrongEnd ∷ triangles)
   unfolding triangles
   tail-sorted = ((λ e k. let q = triangle-stage e k in inl (omega arith)), end)
@@ -118,9 +115,9 @@ module _ (file : List ℕ) where
 
   pub sorted : Sorted stageOf turnOf (rows file)
   sorted = rw is-rows (
-    (λ e k. inl (late e otherLength 0 (omega arith) k (λ k1. late e badTrailer 0 (omega arith) k1 (λ k2. let q = rest-late e k2 in omega arith)))),
+    (λ e k. inl (late stageOf turnOf e otherLength 0 (omega arith) k (λ k1. late stageOf turnOf e badTrailer 0 (omega arith) k1 (λ k2. let q = rest-late e k2 in omega arith)))),
     (
-      (λ e k. inl (late e badTrailer 1 (omega arith) k (λ k2. let q = rest-late e k2 in omega arith))),
+      (λ e k. inl (late stageOf turnOf e badTrailer 1 (omega arith) k (λ k2. let q = rest-late e k2 in omega arith))),
       (
         (λ e k. inl (rest-late e k)),
         (unfold entries in turn-sorted stageOf turnOf badEntry idAgain 3 (λ i. (refl, refl)) (λ i. (refl, refl)) (countOf file) 0 (wrongEnd ∷ triangles) tail-late tail-sorted),
