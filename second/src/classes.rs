@@ -1,11 +1,13 @@
 //! The classes of pairs that a comparison draws from.
 
+mod boxes;
 pub mod decisions;
 mod flat;
 pub mod formulas;
 mod long;
 mod magnitudes;
 mod near;
+pub mod needles;
 pub mod ordinary;
 mod refused;
 mod smallest;
@@ -34,7 +36,7 @@ impl Class {
     }
 }
 
-pub const CLASSES: [Class; 32] = [
+pub const CLASSES: [Class; 41] = [
     Class("worked cases", 2, worked::any),
     Class("uniform, whole centimetres", 20, |r| ordinary::whole_centimetres(r).case(r)),
     Class("uniform, real values", 8, |r| ordinary::real_values(r).case(r)),
@@ -67,6 +69,15 @@ pub const CLASSES: [Class; 32] = [
     Class("not finite", 3, refused::not_finite),
     Class("wrong lengths", 3, refused::wrong_lengths),
     Class("two faults", 3, refused::two_faults),
+    Class("boxes with an edge in common", 4, |r| boxes::common_edge(r).case(r)),
+    Class("boxes with a corner in common", 4, |r| boxes::common_corner(r).case(r)),
+    Class("boxes that are equal or one in the other", 3, |r| boxes::equal_or_within(r).case(r)),
+    Class("boxes an ulp apart", 3, |r| boxes::an_ulp_apart(r).case(r)),
+    Class("boxes a centimetre apart", 3, |r| boxes::a_centimetre_apart(r).case(r)),
+    Class("flat, with near boxes and with far ones", 8, |r| boxes::flat(r).case(r)),
+    Class("overflowing, with near boxes and with far ones", 6, |r| boxes::overflowing(r).case(r)),
+    Class("not finite, with near boxes and with far ones", 3, boxes::not_finite),
+    Class("beyond the tip of a needle", 4, |r| needles::of_any_size(r).case(r)),
 ];
 
 /// A class by its weight.

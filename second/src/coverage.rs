@@ -1,19 +1,24 @@
 //! What one pair went through, so that a comparison can say what it has covered.
 
-use crate::decision::{Decision, OVERLAPPING, TOUCHING};
+pub mod boxes;
+
+use crate::decision::{Decision, APART, OVERLAPPING, TOUCHING};
 use crate::exact::{common_to, Common};
 use crate::triangles::lines::{Parameters, Signs};
 use crate::triangles::numbers::{difference, Point};
 use crate::triangles::orders::{ends_of, lines_crossed, pair_test, Order};
-use crate::triangles::positions::{area_sum, crossing_position};
+use crate::triangles::positions::{area_of, area_sum, crossing_position};
 use crate::triangles::ring::{Place, Ring};
 use crate::triangles::trace::Trace;
 use crate::triangles::Refusal;
+use boxes::{Boxes, Kind};
 
 #[derive(Clone, Default)]
 pub struct Coverage {
     pub refusal: Option<Refusal>,
     pub decision: Decision,
+    /// None where there are fewer than twelve values.
+    pub boxes: Option<Boxes>,
     /// What the triangles truly share, where it was looked at.
     common: Option<Common>,
     pub denominator_overflowed: bool,
@@ -75,6 +80,7 @@ impl Coverage {
     /// To be told after the run of the rules that is traced.
     pub fn decided(&mut self, values: &[f64], decision: Decision) {
         self.decision = decision;
+        self.boxes = Boxes::around(values);
         if decision.number == 0 && self.is_close(values) {
             self.common = values.try_into().ok().and_then(common_to);
         }
@@ -104,6 +110,32 @@ impl Coverage {
 
     pub fn truly(&self, common: Common) -> bool {
         self.common == Some(common)
+    }
+
+    /// Decided by boxes.
+    pub fn far(&self) -> bool {
+        self.decision.number == 0 && self.boxes.map_or(false, |boxes| boxes.far())
+    }
+
+    /// Decided by boxes that lie so, where the triangle rules alone would say something else than apart.
+    pub fn far_and_seen(&self, lie: impl Fn(&Boxes) -> bool) -> bool {
+        let by_the_rules = self.refusal.map_or(self.has_a_ring(), |refusal| refusal != Refusal::Length);
+        self.far() && by_the_rules && self.boxes.map_or(false, |boxes| lie(&boxes))
+    }
+
+    /// Not apart, with boxes that lie so.
+    pub fn near_and_seen(&self, lie: impl Fn(&Boxes) -> bool) -> bool {
+        let asked = |boxes: Boxes| boxes.values == Kind::Finite && boxes.near() && lie(&boxes);
+        self.decision.number != 1 && !self.decided_as(APART) && self.boxes.map_or(false, asked)
+    }
+
+    /// By the triangle rules, also of a pair that is apart.
+    pub fn has_a_ring(&self) -> bool {
+        self.accepted() && !self.ring_places().is_empty()
+    }
+
+    pub fn ring_has_an_area(&self) -> bool {
+        area_of(&self.positions).map_or(false, |area| area > 0.0)
     }
 
     /// Whether the ring touches, though the sum of its area is not zero.

@@ -1,10 +1,13 @@
-//! A pair of triangles goes in; whether it overlaps, touches or is apart comes out, or a refusal. That
-//! follows from what the rules for triangles answer, and from nothing else.
+//! A pair of triangles goes in; whether it overlaps, touches or is apart comes out, or a refusal. Where the
+//! upright boxes around the two share no point the pair is apart. Of all others, what the rules for triangles
+//! answer says it, and nothing else.
 
+#[cfg(test)]
+mod boxes;
 #[cfg(test)]
 mod worked;
 
-use crate::triangles::{intersect, Answer, ROOM};
+use crate::triangles::{intersect, Answer, ROOM, VALUES};
 
 /// What a pair is that is not refused, with the numbers of the C interface.
 pub const APART: u32 = 0;
@@ -24,7 +27,61 @@ pub struct Decision {
 /// Never inlined, so that a caller pays for a call here as for one of a library.
 #[inline(never)]
 pub fn decide(values: &[f64]) -> Decision {
-    decision_of(&intersect(values, &mut [0.0; ROOM]))
+    by_the_triangle_rules(values).unwrap_or_default()
+}
+
+/// None of a pair that is not given to them, because its boxes share no point.
+pub fn by_the_triangle_rules(values: &[f64]) -> Option<Decision> {
+    if is_far(values) {
+        return None;
+    }
+    Some(decision_of(&intersect(values, &mut [0.0; ROOM])))
+}
+
+/// Whether there are two boxes, and they share no point. Without twelve values, all of them finite, there
+/// are none: the triangle rules refuse such a pair.
+pub fn is_far(values: &[f64]) -> bool {
+    let whole = values.len() == VALUES && values.iter().all(|value| value.is_finite());
+    whole && !share_a_point(Upright::around(&values[..6]), Upright::around(&values[6..]))
+}
+
+/// A box whose sides are parallel to the axes, with its border.
+#[derive(Clone, Copy, Debug)]
+struct Upright {
+    left: f64,
+    right: f64,
+    bottom: f64,
+    top: f64,
+}
+
+impl Upright {
+    fn around(triangle: &[f64]) -> Upright {
+        let [x, y] = [0, 1].map(|axis| [triangle[axis], triangle[2 + axis], triangle[4 + axis]]);
+        Upright { left: least(x), right: largest(x), bottom: least(y), top: largest(y) }
+    }
+}
+
+/// Comparisons only: nothing is rounded, and zeros of both signs are the same place.
+fn share_a_point(one: Upright, other: Upright) -> bool {
+    one.left <= other.right && other.left <= one.right && one.bottom <= other.top && other.bottom <= one.top
+}
+
+fn least([a, b, c]: [f64; 3]) -> f64 {
+    let less = if b < a { b } else { a };
+    if c < less {
+        c
+    } else {
+        less
+    }
+}
+
+fn largest([a, b, c]: [f64; 3]) -> f64 {
+    let larger = if b > a { b } else { a };
+    if c > larger {
+        c
+    } else {
+        larger
+    }
 }
 
 /// By the halved area: a sum of 2^−1074 is above zero, but half of it is zero. A refused answer has no ring

@@ -1,13 +1,13 @@
 //! A footprint file and lent room go in; the list of test recordings whose triangles overlap those of a
-//! training recording comes out, at the front of the room, and how many others touch. Everything follows
-//! the rules, pair by pair.
+//! training recording comes out, at the front of the room, how many others touch, and how many triangle
+//! pairs were given to the triangle rules. Everything follows the rules, pair by pair.
 
 #[cfg(test)]
 mod worked;
 
 use std::fmt::Write;
 
-use crate::decision::{decide, Decision};
+use crate::decision::{by_the_triangle_rules, Decision};
 use crate::footprint::stored::{triangle, TEST, TRAINING, TRIANGLE};
 use crate::footprint::{lines_of, Refused};
 use crate::triangles::VALUES;
@@ -26,6 +26,9 @@ pub struct List {
     pub leaks: u32,
     /// The last line's number.
     pub touching: u32,
+    /// How many triangle pairs of test and training recordings have boxes that share a point. No line says
+    /// it.
+    pub tested: u32,
 }
 
 /// A test and a training recording of which triangles overlap, by their ids.
@@ -43,21 +46,29 @@ pub struct Whole {
     pub leaks: Vec<Leak>,
     /// How many pairs of recordings touch and do not overlap.
     pub touching: u32,
+    /// How many triangle pairs were given to the triangle rules.
+    pub tested: u32,
     pub text: String,
 }
 
 /// Of the triangle pairs of two recordings.
 #[derive(Clone, Copy, Debug, Default, PartialEq, Eq)]
 pub struct Counts {
+    pub tested: u32,
     pub overlapping: u32,
     pub touching: u32,
 }
 
 impl Counts {
-    fn with(self, pair: Decision) -> Counts {
-        Counts {
-            overlapping: self.overlapping + u32::from(pair.overlaps()),
-            touching: self.touching + u32::from(pair.touches()),
+    /// A pair that the triangle rules refuse was given to them; one with far boxes was not, and is apart.
+    fn with(self, pair: Option<Decision>) -> Counts {
+        match pair {
+            None => self,
+            Some(pair) => Counts {
+                tested: self.tested + 1,
+                overlapping: self.overlapping + u32::from(pair.overlaps()),
+                touching: self.touching + u32::from(pair.touches()),
+            },
         }
     }
 
@@ -78,7 +89,7 @@ pub fn leaks(file: &[u8], room: &mut [u8]) -> List {
 
 pub fn whole_list(file: &[u8]) -> Result<Whole, Refused> {
     let lines = lines_of(file)?;
-    let (mut leaks, mut touching) = (Vec::new(), 0);
+    let (mut leaks, mut touching, mut tested) = (Vec::new(), 0, 0);
     for test in lines.iter().filter(|line| line.set == TEST) {
         for training in lines.iter().filter(|line| line.set == TRAINING) {
             let counts = counts_of(test.part(file), training.part(file));
@@ -86,10 +97,11 @@ pub fn whole_list(file: &[u8]) -> Result<Whole, Refused> {
                 leaks.push(Leak { test: test.id, training: training.id, pairs: counts.overlapping });
             }
             touching += u32::from(counts.only_touch());
+            tested += counts.tested;
         }
     }
     let text = text_of(&leaks, touching);
-    Ok(Whole { leaks, touching, text })
+    Ok(Whole { leaks, touching, tested, text })
 }
 
 /// The second half of `leaks`: a refused file answers for itself, then the room is measured, and
@@ -107,10 +119,11 @@ pub fn written(whole: &Result<Whole, Refused>, room: &mut [u8]) -> List {
     }
     room[..text.len()].copy_from_slice(text);
     let leaks = whole.leaks.len() as u32;
-    List { number: 0, place: 0, length: text.len(), leaks, touching: whole.touching }
+    let (touching, tested) = (whole.touching, whole.tested);
+    List { number: 0, place: 0, length: text.len(), leaks, touching, tested }
 }
 
-/// Every triangle of the one part with every one of the other.
+/// Every triangle of the one part with every one of the other, whatever came before.
 pub fn counts_of(of_u: &[u8], of_v: &[u8]) -> Counts {
     let mut values = [0.0; VALUES];
     let mut counts = Counts::default();
@@ -118,7 +131,7 @@ pub fn counts_of(of_u: &[u8], of_v: &[u8]) -> Counts {
         values[..6].copy_from_slice(&triangle(u).map(f64::from));
         for v in of_v.chunks_exact(TRIANGLE) {
             values[6..].copy_from_slice(&triangle(v).map(f64::from));
-            counts = counts.with(decide(&values));
+            counts = counts.with(by_the_triangle_rules(&values));
         }
     }
     counts

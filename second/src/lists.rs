@@ -3,8 +3,10 @@
 pub mod coverage;
 mod events;
 pub mod largest;
+mod outlines;
 mod recordings;
 pub mod rooms;
+mod rows;
 mod scenes;
 mod seams;
 pub mod tally;
@@ -16,25 +18,35 @@ use crate::footprint::lines_of;
 use crate::footprint::stored::{Line, TEST, TRAINING};
 use crate::random::Random;
 
-pub const CLASSES: [Class; 18] = [
-    Class("no recordings", 5, |_| good::none().bytes()),
+pub const CLASSES: [Class; 28] = [
+    Class("no recordings", 7, |_| good::none().bytes()),
     Class("worked pairs", 14, scenes::worked),
     Class("few recordings on a small grid", 20, |r| scenes::grid(r, 2, 6, 3)),
-    Class("several recordings on a small grid", 10, |r| scenes::grid(r, 9, 20, 1)),
-    Class("64 recordings on a small grid", 5, |r| scenes::grid(r, 64, 64, 1)),
+    Class("several recordings on a small grid", 12, |r| scenes::grid(r, 9, 20, 1)),
+    Class("64 recordings on a small grid", 9, |r| scenes::grid(r, 64, 64, 1)),
     Class("touching pairs", 22, scenes::touching),
     Class("tracks that cross, touch or lie apart", 16, tracks::file),
-    Class("parts of edges", 34, scenes::part_of_an_edge),
+    Class("parts of edges", 40, scenes::part_of_an_edge),
     Class("floors of planks", 26, seams::floor),
     Class("tests and trainings on two banks", 16, seams::banks),
     Class("recordings of one set", 12, scenes::one_set),
-    Class("one pair with a ring", 22, scenes::one_pair),
-    Class("many pairs that overlap", 11, scenes::many_pairs),
-    Class("triangles of any shape, one recording", 8, |r| good::one(r).bytes()),
+    Class("one pair with a ring", 36, scenes::one_pair),
+    Class("many pairs that overlap", 14, scenes::many_pairs),
+    Class("triangles of any shape, one recording", 9, |r| good::one(r).bytes()),
     Class("triangles of any shape, few recordings", 10, |r| good::few(r).bytes()),
     Class("long and thin triangles", 10, |r| good::of_shape(r, shapes::thin).bytes()),
     Class("triangles at the ends of the range", 10, |r| good::of_shape(r, shapes::at_the_ends).bytes()),
-    Class("files that readers are compared with", 85, any_file),
+    Class("tracks along a diagonal", 12, outlines::diagonals),
+    Class("tracks round a corner", 10, outlines::bent),
+    Class("tracks round others", 12, outlines::rings),
+    Class("recordings at a common border", 34, outlines::borders),
+    Class("triangles at the corners of a recording", 18, outlines::corners),
+    Class("recordings within one another", 12, outlines::within),
+    Class("boxes that all have a point in common", 14, outlines::all_near),
+    Class("boxes that are all apart", 10, outlines::none_near),
+    Class("rows that one triangle leaves", 54, rows::file),
+    Class("beyond the tip of a needle", 24, scenes::needle),
+    Class("files that readers are compared with", 100, any_file),
 ];
 
 /// A class by its weight.

@@ -1,5 +1,7 @@
 //! Counts of what a comparison went through, and what it must have gone through.
 
+mod boxes;
+
 use std::collections::HashMap;
 
 use crate::classes::CLASSES;
@@ -8,6 +10,7 @@ use crate::decision::{APART, OVERLAPPING, TOUCHING};
 use crate::exact::Common;
 use crate::triangles::ring::Place;
 use crate::triangles::Refusal;
+use boxes::BOXES;
 
 const SIZES: [usize; 5] = [0, 3, 4, 5, 6];
 
@@ -64,6 +67,9 @@ const DECISIONS: [Event; 15] = [
     ("not apart, but truly so", |c| !c.decided_as(APART) && c.truly(Common::Nothing)),
 ];
 
+/// The table of how boxes lie.
+pub const BOXES_TABLE: &str = "boxes";
+
 pub struct Row {
     pub table: &'static str,
     pub name: String,
@@ -85,6 +91,7 @@ impl Default for Tally {
         REFUSALS.iter().for_each(|(_, name)| add("refusal", name.to_string()));
         EVENTS.iter().for_each(|(name, _)| add("event", name.to_string()));
         DECISIONS.iter().for_each(|(name, _)| add("decision", name.to_string()));
+        BOXES.iter().for_each(|(name, _)| add(BOXES_TABLE, name.to_string()));
         Tally { rows, combinations: HashMap::new() }
     }
 }
@@ -111,6 +118,8 @@ impl Tally {
         hit.extend((0..EVENTS.len()).filter(|k| EVENTS[*k].1(coverage)).map(|k| events + k));
         let decisions = events + EVENTS.len();
         hit.extend((0..DECISIONS.len()).filter(|k| DECISIONS[*k].1(coverage)).map(|k| decisions + k));
+        let boxes = decisions + DECISIONS.len();
+        hit.extend((0..BOXES.len()).filter(|k| BOXES[*k].1(coverage)).map(|k| boxes + k));
         hit
     }
 

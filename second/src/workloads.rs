@@ -1,32 +1,27 @@
-//! Pairs to measure time with, in whole centimetres as a footprint file has them, and such files to read and
-//! to write.
+//! Pairs to measure time with, in whole centimetres as a footprint file has them, and such files to read, to
+//! write and to list the leaks of.
+
+pub mod tracks;
 
 use crate::case::{point, Pair};
 use crate::classes::ordinary;
 use crate::drafts;
 use crate::files::draft::Draft;
 use crate::files::good;
-use crate::footprint::stored::{TEST, TRAINING};
 use crate::footprint::{Verdict, MOST_RECORDINGS};
 use crate::leaks::List;
 use crate::random::Random;
 use crate::triangles::numbers::Point;
 use crate::writer::Written;
+use tracks::{beside, strip, within, Triangle};
 
 pub type Values = [f64; 12];
-type Triangle = [Point; 3];
 
 const SEED: u64 = 77;
 pub const NAMES: [&str; 3] = ["random", "strips", "far"];
-/// The workloads that are files: one to judge, the same one to write, and one to list the leaks of.
+/// A file to judge, and the same one to write.
 pub const FILE: &str = "file";
 pub const WRITE: &str = "write";
-pub const LEAKS: &str = "leaks";
-/// Recordings of either set in the file with leaks; more of them would not fit.
-pub const MOST_TRACKS: usize = 28;
-/// Steps of a track in that file, and its triangles.
-const STEPS: usize = 24;
-const TRIANGLES: usize = 2 * STEPS;
 
 /// None where there is no workload of that name.
 pub fn pairs(name: &str, count: usize) -> Option<Vec<Values>> {
@@ -64,7 +59,7 @@ pub fn fold_verdict(sum: u64, verdict: Verdict) -> u64 {
 
 #[inline]
 pub fn fold_list(sum: u64, list: List) -> u64 {
-    let numbers = [list.number, list.place, list.length as u32, list.leaks, list.touching];
+    let numbers = [list.number, list.place, list.length as u32, list.leaks, list.touching, list.tested];
     numbers.iter().fold(sum, |sum, number| sum.rotate_left(7) ^ u64::from(*number).wrapping_add(1))
 }
 
@@ -88,32 +83,6 @@ fn largest() -> Draft {
     let recordings = MOST_RECORDINGS as usize;
     let mut random = Random::new(SEED);
     good::filled(&mut random, recordings, good::most_triangles(recordings), good::anywhere)
-}
-
-/// Triangle pairs of the file with so many recordings of either set.
-pub fn pairs_of_tracks(recordings: usize) -> usize {
-    (TRIANGLES * recordings) * (TRIANGLES * recordings)
-}
-
-/// A test and a training track by turns. Every fourth two cross; the others lie where chance puts
-/// them, most of them far apart.
-pub fn file_of_tracks(recordings: usize) -> Vec<u8> {
-    let mut random = Random::new(SEED);
-    let mut triangles = Vec::new();
-    for k in 0..recordings {
-        let (start, course) = (within(&mut random, 400_000.0), within(&mut random, 1.0));
-        let across = point(-course.y, course.x);
-        let other = match k % 4 {
-            0 => beside(start, course, 12_000.0, across, -12_000.0),
-            _ => within(&mut random, 400_000.0),
-        };
-        triangles.extend(strip(&mut random, start, course, STEPS));
-        triangles.extend(strip(&mut random, other, across, STEPS));
-    }
-    let ids: Vec<u32> = (0..2 * recordings).map(|_| random.bits() as u32).collect();
-    let stored = triangles.iter().map(|[a, b, c]| [a.x, a.y, b.x, b.y, c.x, c.y].map(|value| value as i32));
-    let counts = vec![TRIANGLES as u16; 2 * recordings];
-    Draft::of(&ids, &counts, &[TEST, TRAINING].repeat(recordings), stored.collect()).bytes()
 }
 
 /// Two small triangles on opposite sides of the tank.
@@ -145,38 +114,6 @@ fn strips(random: &mut Random, count: usize) -> Vec<Pair> {
     pairs
 }
 
-fn within(random: &mut Random, farthest: f64) -> Point {
-    point(random.real(-farthest, farthest), random.real(-farthest, farthest))
-}
-
-fn beside(start: Point, course: Point, along: f64, across: Point, aside: f64) -> Point {
-    let length = (course.x * course.x + course.y * course.y).sqrt();
-    point(
-        start.x + (along * course.x + aside * across.x) / length,
-        start.y + (along * course.y + aside * across.y) / length,
-    )
-}
-
-/// So many steps of a track that bends a little, each a four-sided piece cut into two triangles.
-fn strip(random: &mut Random, start: Point, course: Point, steps: usize) -> Vec<Triangle> {
-    let (step, half_width) = (random.real(700.0, 1_500.0), random.real(1_000.0, 2_000.0));
-    let (mut position, mut course) = (start, course);
-    let mut banks = Vec::new();
-    for _ in 0..=steps {
-        let bend = random.real(-0.1, 0.1);
-        course = point(course.x - bend * course.y, course.y + bend * course.x);
-        let across = point(-course.y, course.x);
-        let whole = |p: Point| point(p.x.round(), p.y.round());
-        banks
-            .push([half_width, -half_width].map(|aside| whole(beside(position, course, 0.0, across, aside))));
-        position = beside(position, course, step, across, 0.0);
-    }
-    let pieces = banks.windows(2);
-    pieces
-        .flat_map(|bank| [[bank[0][0], bank[0][1], bank[1][0]], [bank[0][1], bank[1][1], bank[1][0]]])
-        .collect()
-}
-
 /// Whether the boxes around the two come within a boat's step of each other.
 fn near(u: &Triangle, v: &Triangle) -> bool {
     const STEP: f64 = 1_000.0;
@@ -192,7 +129,6 @@ fn near(u: &Triangle, v: &Triangle) -> bool {
 mod tests {
     use super::*;
     use crate::footprint::{judge, MOST_BYTES};
-    use crate::leaks::whole_list;
     use crate::writer::write;
 
     #[test]
@@ -207,16 +143,5 @@ mod tests {
         let written = write(largest_draft().handed(), &mut room);
         assert_eq!(written, Written { number: 0, place: 0, length: 65_532 });
         assert_eq!((&room[..65_532], &room[65_532..]), (&largest_file()[..], &[46; 4][..]));
-    }
-
-    #[test]
-    fn tracks_overlap_here_and_there() {
-        assert_eq!(judge(&file_of_tracks(MOST_TRACKS)), Verdict::default());
-        let overlapping = |recordings: usize| {
-            let list = whole_list(&file_of_tracks(recordings)).expect("a good file");
-            list.leaks.iter().map(|leak| leak.pairs).sum::<u32>()
-        };
-        assert!((20..100).contains(&overlapping(1)));
-        assert!((20..200).contains(&overlapping(5)));
     }
 }

@@ -23,8 +23,9 @@ use Rattle.triangles.specs.Rows.{NotFinite, NoRow}
 use Rattle.triangles.specs.declared.Answer.{Answer}
 use Rattle.triangles.specs.declared.Decision.{Decision}
 use Rattle.triangles.specs.declared.Decision.the-variants.{Refused, Overlapping, Touching, Apart}
-use Rattle.triangles.specs.Decision.{isAbove, enough, answerTo, decided, decisionOf}
+use Rattle.triangles.specs.Decision.{isAbove, enough, answerTo, decided, byRules, decisionOf}
 use Rattle.triangles.proofs.Rows.{by-none, number-is}
+use Rattle.triangles.proofs.Parted.{decision-by}
 use Rattle.centimetres.specs.Centimetres.{twelveValues, NeverRefused, AlwaysDecided}
 use Rattle.centimetres.proofs.Zero.{eq-exact}
 use Rattle.centimetres.proofs.Ways.{Whole}
@@ -97,8 +98,16 @@ no-number a z = rw z (go (eqb (a .n) 0) (isAbove (a .area)))
     go false true = refl
     go false false = refl
 
+-- far or not
+by-boxes : (l : List Float) → isRefused (byRules l) ≡ false → isRefused (decisionOf l) ≡ false
+unfolding isRefused
+by-boxes l h = elim (decision-by l) [
+  | inl p ↦ ap isRefused (p .1)
+  | inr p ↦ ap isRefused (p .1) ∙ h
+]
+
 pub always-decided : AlwaysDecided
-unfolding decisionOf isRefused
+unfolding byRules isRefused
 always-decided u v hu hv k e =
     let n = number-is (twelveValues u v) enough ∙ never-refused u v hu hv enough (lit≤ tt) in
-    false≢true (sym (no-number (answerTo (twelveValues u v)) n) ∙ ap isRefused e)
+    false≢true (sym (by-boxes (twelveValues u v) (no-number (answerTo (twelveValues u v)) n)) ∙ ap isRefused e)

@@ -5,5 +5,6 @@ pub mod Zero
 pub mod Same
 pub mod First
 pub mod OneAnswer
+pub mod Smaller
 pub mod Sums
 pub mod Turns

@@ -1,13 +1,21 @@
--- The rows of the refusals from the coordinates to the parameters by the last values alone, d, e and the three w; and what one sum tells of them. That they come to the rows of the table is proved where the values are those of a pair. Definitions only.
+-- Which pairs are far, as the code asks it. The rows of the refusals from the coordinates to the parameters by the last values alone, d, e and the three w; and what one sum tells of them. That they come to the rows of the table is proved where the values are those of a pair. Definitions only.
 use mathlib.Core.Bool.{Bool, not, _&&_, cond}
 use mathlib.Core.List.{List, [], _∷_}
 use Prim.Native.Nat.{ℕ}
+use lib.Dec.{eqb}
+use lib.ListN.{length}
 use lib.Ieee.{Float, binary64, add, eq}
 use Rattle.floats.specs.Lists.{all}
 use Rattle.floats.specs.Finite.{finite, nought}
 use Rattle.lines.specs.declared.Params.{Params}
 use Rattle.lines.specs.Parameters.{signsOf}
 use Rattle.walk.specs.Code.{beyondALine}
+use Rattle.boxes.specs.Near.{isNear}
+
+-- twelve values, boxes that share no point, and all values finite
+unfoldable pub farBy : List Float → Bool
+unfolding isNear
+farBy l = eqb (length l) 12 && (not (isNear l) && all finite l)
 
 -- by values: the coordinates, d, e and the parameters
 unfoldable pub frontBy : List Float → Float → Float → Params → Params → Params → ℕ

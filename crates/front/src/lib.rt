@@ -1,8 +1,8 @@
-// What is told before the orders along edges: the rows of the refusals from the coordinates to the parameters, and the pairs without a ring.
+// What is told before the orders along edges: which pairs are far, the rows of the refusals from the coordinates to the parameters, and the pairs without a ring.
 ghost use mathlib.Core.Path.{_≡_};
 ghost use Rattle.floats.specs.Lists.{all};
 ghost use Rattle.floats.specs.Finite.{finite};
-ghost use Rattle.front.specs.Front.{frontBy, clearBy, beyondBy, numberBy};
+ghost use Rattle.front.specs.Front.{farBy, frontBy, clearBy, beyondBy, numberBy};
 
 // Whether no value is NaN or an infinity.
 fn all_finite(values: &[f64]) -> bool
@@ -16,6 +16,35 @@ fn all_finite(values: &[f64]) -> bool
         i += 1;
     }
     so_far
+}
+
+// Whether the two triangles are far: twelve finite values, and no point that is in both boxes. Only where the boxes share none are values looked at one by one.
+pub fn is_far(values: &[f64]) -> bool
+    ensures { λ r. ⌜ r ≡ farBy (now (values .entry)) ⌝ }
+{
+    if values.len() != 12 {
+        return false;
+    }
+    let u = boxes::box_of(
+        values[0],
+        values[1],
+        values[2],
+        values[3],
+        values[4],
+        values[5],
+    );
+    let v = boxes::box_of(
+        values[6],
+        values[7],
+        values[8],
+        values[9],
+        values[10],
+        values[11],
+    );
+    if boxes::share_point(u, v) {
+        return false;
+    }
+    all_finite(values)
 }
 
 // The rows of the refusals from the coordinates to the parameters, in their order. Of d, e and the parameters the last values tell of all on their way,

@@ -1,78 +1,220 @@
--- Turns of the loops that count: one more decision, one more row. Assumes nothing.
-use Prim.Native.Nat.{ℕ, _+_}
-use mathlib.Core.Path.{_≡_, refl, sym, ap, ap₂, _∙_}
-use mathlib.Core.Bool.{Bool, false, _||_, true≢false}
-use mathlib.Core.List.{List, [], _∷_, _++_, map}
+-- Turns of the loops that count: one more pair that is near, one more row; and what is passed over, which adds nothing. Assumes nothing.
+use Prim.Native.Nat.{ℕ, zero, suc, _+_, _-_, _<_, _≤_}
+use mathlib.Core.Path.{_≡_, refl, sym, ap, ap₂, subst, _∙_}
+use mathlib.Core.Bool.{Bool, true, false}
+use mathlib.Core.List.{List, [], _∷_, _++_, map, List·Memᴰ, List·Memᴰ·head as here, List·Memᴰ·tail as there, List·Memᴰ·append-cases}
+use mathlib.Core.Logic.{⊎-elim}
 use native.Mathlib.Omega.{arith}
+use native.Mathlib.Nat.{add-zero}
 use native.Mathlib.Numerals.{add-one}
 use lib.Ieee.{Float}
+use Rattle.floats.specs.Lists.{once}
+use Rattle.floats.specs.Finite.{finite}
 use Rattle.triangles.specs.declared.Decision.{Decision}
-use Rattle.triangles.specs.declared.Decision.the-variants.{Refused, Overlapping, Touching, Apart}
-use Rattle.triangles.specs.Decision.{decisionOf, overlaps, touches}
+use Rattle.triangles.specs.declared.Decision.the-variants.{Apart}
+use Rattle.triangles.specs.Decision.{byRules, decisionOf, overlaps, touches}
+use Rattle.triangles.proofs.Decided.{boxes-first}
 use Rattle.shapes.specs.declared.Shape.{Shape}
-use Rattle.shapes.specs.Shapes.{twelve}
+use Rattle.shapes.specs.Shapes.{Made, sixOf, twelve}
+use Rattle.boxes.specs.declared.Box.{Box}
+use Rattle.boxes.specs.Boxes.{boxOf, sharePoint}
+use Rattle.boxes.specs.Shared.{FiniteBox, Within}
+use Rattle.boxes.specs.Near.{isNear, Given}
+use Rattle.boxes.proofs.Held.{within-self, none-within, no-point-turned}
+use Rattle.boxes.proofs.Points.{box-finite}
+use Rattle.boxes.proofs.Pairs.{boxes-tell}
+use Rattle.boxed.specs.Tables.{boxIn, boxOver, nextNear}
+use Rattle.boxed.proofs.Rows.{holds-all, passes-over}
+use Rattle.routine.specs.Code.{rulesBy}
+use Rattle.routine.proofs.Decisions.{rules-of-made}
 use Rattle.listing.specs.declared.Tally.{Tally}
 use Rattle.listing.specs.Turns.{upTo, each, folded}
 use Rattle.listing.specs.Pairs.{noneYet, tallied}
 use Rattle.listing.proofs.Turns.{map-append, folded-append, each-append, each-one}
-use Rattle.leaklist.specs.Code.{shapeIn, decisionIn, rowIn, tallyIn}
+use Rattle.leaklist.specs.Code.{shapeIn, boxOfShape, ReadyAt, ReadyFrom, valuesIn, rowIn, talliedNear, tallyIn}
 
 one-more : (n : ℕ) → upTo (n + 1) ≡ upTo n ++ (n ∷ [])
 one-more n = ap upTo (add-one n) ∙ (unfold upTo in refl)
 
 -- a tally by its counts
-abbrev tallyBy : ℕ → ℕ → Tally
-tallyBy n t = record { overlapping = n; touching = t }
+abbrev tallyBy : ℕ → ℕ → ℕ → Tally
+tallyBy n t k = record { overlapping = n; touching = t; tested = k }
 
-pub tally-same : {a b c d : ℕ} → a ≡ c → b ≡ d → tallyBy a b ≡ tallyBy c d
-tally-same p q = rw (p, q) refl
+pub tally-same : {a b c d e f : ℕ} → a ≡ d → b ≡ e → c ≡ f → tallyBy a b c ≡ tallyBy d e f
+tally-same p q r = rw (p, q, r) refl
 
--- a pair that neither overlaps nor touches adds nothing
-pub none-added : (t : Tally) (d : Decision) {o p : Bool} → o ≡ overlaps d → p ≡ touches d → (o || p) ≡ false → t ≡ tallied t d
-none-added t d {o} {p} ho hp h = go d (sym (ap₂ _||_ ho hp) ∙ h)
-  where
-    go : (d : Decision) → (overlaps d || touches d) ≡ false → t ≡ tallied t d
-    go (Refused k) h = absurd (true≢false h)
-    go (Overlapping a) h = absurd (true≢false h)
-    go Touching h = absurd (true≢false h)
-    go Apart h = tally-same (omega arith) (omega arith)
+-- ---- one pair
+-- a far one adds nothing
+adds-none : (l : List Float) → Given l → isNear l ≡ false → (t : Tally) → tallied t l ≡ t
+adds-none l g h t =
+    let apart : decisionOf l ≡ Apart = boxes-first l .far (boxes-tell l g .far .0 h) in
+    rw (apart, h) (tally-same (omega arith) (omega arith) (omega arith))
 
-module _ (table : List Float) where
-  pub row-none : (t : Tally) (i j : ℕ) → t ≡ folded tallied t (rowIn table i j 0)
-  unfolding rowIn upTo folded
-  row-none t i j = refl
+-- a near one is what the triangle rules decide
+adds-near : (l : List Float) → Given l → isNear l ≡ true → (t : Tally) → tallied t l ≡ talliedNear t (byRules l)
+adds-near l g h t = rw (boxes-first l .near (boxes-tell l g .near .0 h), h) refl
 
-  row-snoc : (i j b : ℕ) → rowIn table i j (b + 1) ≡ rowIn table i j b ++ (decisionIn table i (j + b) ∷ [])
-  unfolding rowIn
-  row-snoc i j b = ap (map (λ c. decisionIn table i (j + c))) (one-more b) ∙ map-append (λ c. decisionIn table i (j + c)) (upTo b) (b ∷ [])
+-- ---- two triangles of the table
+module _ (table bounds : List Float) where
+  given-in : (i j : ℕ) → ReadyAt table bounds i → ReadyAt table bounds j → Given (valuesIn table i j)
+  given-in i j p q = record { twelve = refl; allFinite = λ v m. ⊎-elim (p .allFinite v) (q .allFinite v) (List·Memᴰ·append-cases (sixOf (shapeIn table i)) m) }
 
-  folded-one : (t : Tally) (d : Decision) → folded tallied t (d ∷ []) ≡ tallied t d
-  unfolding folded
-  folded-one t d = refl
+  near-in : (i j : ℕ) → ReadyAt table bounds i → ReadyAt table bounds j → isNear (valuesIn table i j) ≡ sharePoint (boxIn bounds i) (boxIn bounds j)
+  unfolding isNear
+  near-in i j p q = sym (ap₂ sharePoint (p .framed) (q .framed))
 
-  in-table : (i j : ℕ) → decisionOf (twelve (shapeIn table i) (shapeIn table j)) ≡ decisionIn table i j
-  unfolding decisionIn
-  in-table i j = refl
+  far-in : (i j : ℕ) → ReadyAt table bounds i → ReadyAt table bounds j → sharePoint (boxIn bounds i) (boxIn bounds j) ≡ false → (t : Tally) → tallied t (valuesIn table i j) ≡ t
+  far-in i j p q h = adds-none (valuesIn table i j) (given-in i j p q) (near-in i j p q ∙ h)
 
-  -- a decision of two shapes of the table, counted
-  pub row-turn : (t : Tally) (i j b : ℕ) {s r : Tally} {d : Decision} {u v : Shape} → u ≡ shapeIn table i → v ≡ shapeIn table (j + b) → d ≡ decisionOf (twelve u v) → s ≡ folded tallied t (rowIn table i j b) → r ≡ tallied s d → r ≡ folded tallied t (rowIn table i j (b + 1))
-  row-turn t i j b hu hv hd hs hr =
-      hr
-      ∙ (ap₂ tallied hs (hd ∙ (ap₂ (λ x y. decisionOf (twelve x y)) hu hv ∙ in-table i (j + b)))
-      ∙ (sym (folded-one (folded tallied t (rowIn table i j b)) (decisionIn table i (j + b)))
-      ∙ (sym (folded-append tallied t (rowIn table i j b) (decisionIn table i (j + b) ∷ [])) ∙ ap (folded tallied t) (sym (row-snoc i j b)))))
+  counted-in : (i j : ℕ) → ReadyAt table bounds i → ReadyAt table bounds j → sharePoint (boxIn bounds i) (boxIn bounds j) ≡ true → (t : Tally) → tallied t (valuesIn table i j) ≡ talliedNear t (rulesBy (shapeIn table i) (shapeIn table j))
+  counted-in i j p q h t = adds-near (valuesIn table i j) (given-in i j p q) (near-in i j p q ∙ h) t ∙ ap (talliedNear t) (sym (rules-of-made (shapeIn table i) (shapeIn table j) (p .made, q .made)))
 
-  pub tally-none : (i j n : ℕ) → noneYet ≡ tallyIn table i 0 j n
-  unfolding tallyIn upTo each folded
-  tally-none i j n = refl
-
-  pub tally-turn : (i j n a : ℕ) {s r : Tally} → s ≡ tallyIn table i a j n → r ≡ folded tallied s (rowIn table (i + a) j n) → r ≡ tallyIn table i (a + 1) j n
-  unfolding tallyIn
-  tally-turn i j n a {s} hs hr =
-      hr
-      ∙ (ap (λ t. folded tallied t (rowIn table (i + a) j n)) hs
-      ∙ (sym (folded-append tallied noneYet (each rows (upTo a)) (rowIn table (i + a) j n))
-      ∙ ap (folded tallied noneYet) (sym (ap (each rows) (one-more a) ∙ (each-append rows (upTo a) (a ∷ []) ∙ ap (λ r. each rows (upTo a) ++ r) (each-one rows a))))))
+  finite-in : (k : ℕ) → ReadyAt table bounds k → FiniteBox (boxIn bounds k)
+  finite-in k p = subst FiniteBox (sym (p .framed)) (box-finite (record { x0 = s .x0; y0 = s .y0; x1 = s .x1; y1 = s .y1; x2 = s .x2; y2 = s .y2 }) fine)
     where
-      rows : ℕ → List Decision
+      s : Shape
+      s = shapeIn table k
+
+      fine : (v : Float) → List·Memᴰ v (s .x0 ∷ s .x1 ∷ s .x2 ∷ s .y0 ∷ s .y1 ∷ s .y2 ∷ []) → finite v ≡ true
+      fine v (here e) = p .allFinite v (here e)
+      fine v (there (here e)) = p .allFinite v (there (there (here e)))
+      fine v (there (there (here e))) = p .allFinite v (there (there (there (there (here e)))))
+      fine v (there (there (there (here e)))) = p .allFinite v (there (here e))
+      fine v (there (there (there (there (here e))))) = p .allFinite v (there (there (there (here e))))
+      fine v (there (there (there (there (there (here e)))))) = p .allFinite v (there (there (there (there (there (here e))))))
+
+  -- ---- a row: one more pair, or some that are passed over
+  row-snoc : (i j b : ℕ) → rowIn table i j (b + 1) ≡ rowIn table i j b ++ (valuesIn table i (j + b) ∷ [])
+  unfolding rowIn
+  row-snoc i j b = ap (map (λ c. valuesIn table i (j + c))) (one-more b) ∙ map-append (λ c. valuesIn table i (j + c)) (upTo b) (b ∷ [])
+
+  folded-one : (t : Tally) (l : List Float) → folded tallied t (l ∷ []) ≡ tallied t l
+  unfolding folded
+  folded-one t l = refl
+
+  row-more : (t : Tally) (i j b : ℕ) → folded tallied t (rowIn table i j (b + 1)) ≡ tallied (folded tallied t (rowIn table i j b)) (valuesIn table i (j + b))
+  row-more t i j b = ap (folded tallied t) (row-snoc i j b) ∙ (folded-append tallied t (rowIn table i j b) (valuesIn table i (j + b) ∷ []) ∙ folded-one (folded tallied t (rowIn table i j b)) (valuesIn table i (j + b)))
+
+  row-skip : (t : Tally) (i j b k : ℕ) → ((c : ℕ) → b ≤ c → c < b + k → (s : Tally) → tallied s (valuesIn table i (j + c)) ≡ s) → folded tallied t (rowIn table i j (b + k)) ≡ folded tallied t (rowIn table i j b)
+  row-skip t i j b zero none = ap (λ m. folded tallied t (rowIn table i j m)) (add-zero b)
+  row-skip t i j b (suc k) none =
+      ap (λ m. folded tallied t (rowIn table i j m)) (next b k)
+      ∙ (row-more t i j (b + k) ∙ (none (b + k) (omega arith) (omega arith) (folded tallied t (rowIn table i j (b + k))) ∙ row-skip t i j b k (λ c l h. none c l (omega (arith, h)))))
+    where
+      next : (b k : ℕ) → b + suc k ≡ b + k + 1
+      next b k = omega arith
+
+  row-empty : (t : Tally) (i j : ℕ) → t ≡ folded tallied t (rowIn table i j 0)
+  unfolding rowIn upTo folded
+  row-empty t i j = refl
+
+  module _ (i j n : ℕ) (first : ReadyAt table bounds i) (each-ready : ReadyFrom table bounds j n) where
+    -- from k on to the next that is near
+    pub row-on : (t : Tally) (k : ℕ) {s : Tally} {b : Box} {k' : ℕ} → j ≤ k → k ≤ j + n → b ≡ boxIn bounds i → s ≡ folded tallied t (rowIn table i j (k - j)) → k' ≡ nextNear bounds b (j + n - k) k →
+        (k ≤ k') × (k' ≤ j + n) × (s ≡ folded tallied t (rowIn table i j (k' - j))) × (k' < j + n → sharePoint (boxIn bounds i) (boxIn bounds k') ≡ true)
+    row-on t k {s} {b} {k'} low high hb hs hk =
+        let p = passes-over bounds (boxIn bounds i) (j + n - k) k in
+        let e : k' ≡ nextNear bounds (boxIn bounds i) (j + n - k) k = hk ∙ ap (λ x. nextNear bounds x (j + n - k) k) hb in
+        let least = p .least in
+        let most = p .most in
+        let le : k ≤ k' = omega (arith, e, least) in
+        let ge : k' ≤ j + n = omega (arith, e, most, high) in
+        let parts : k' - j ≡ k - j + (k' - k) = omega (arith, low, le) in
+        let same = row-skip t i j (k - j) (k' - k) (λ c l h. far-in i (j + c) first (each-ready c (omega (arith, l, h, low, ge, le))) (p .none (j + c) (omega (arith, l, low)) (omega (arith, h, low, e, le)))) in
+        (le, ge, hs ∙ (sym same ∙ ap (λ m. folded tallied t (rowIn table i j m)) (sym parts)), λ h. subst (λ m. sharePoint (boxIn bounds i) (boxIn bounds m) ≡ true) (sym e) (p .one (omega (arith, e, h, high))))
+
+    -- the one at k counted
+    pub row-turn : (t : Tally) (k : ℕ) {s r : Tally} {u v : Shape} {d : Decision} → j ≤ k → k < j + n → u ≡ shapeIn table i → v ≡ shapeIn table k → sharePoint (boxIn bounds i) (boxIn bounds k) ≡ true → d ≡ rulesBy u v → s ≡ folded tallied t (rowIn table i j (k - j)) → r ≡ talliedNear s d → r ≡ folded tallied t (rowIn table i j (k + 1 - j))
+    row-turn t k {s} {r} {u} {v} {d} low high hu hv near hd hs hr =
+        let at : j + (k - j) ≡ k = omega (arith, low) in
+        let behind : k - j + 1 ≡ k + 1 - j = omega (arith, low) in
+        let ready = subst (ReadyAt table bounds) at (each-ready (k - j) (omega (arith, low, high))) in
+        hr
+        ∙ (ap₂ talliedNear hs (hd ∙ ap₂ rulesBy hu hv)
+        ∙ (sym (counted-in i k first ready near (folded tallied t (rowIn table i j (k - j))))
+        ∙ (ap (λ m. tallied (folded tallied t (rowIn table i j (k - j))) (valuesIn table i m)) (sym at)
+        ∙ (sym (row-more t i j (k - j)) ∙ ap (λ m. folded tallied t (rowIn table i j m)) behind))))
+
+    -- nothing counted yet
+    pub row-start : (t : Tally) → t ≡ folded tallied t (rowIn table i j (j - j))
+    row-start t = let z : 0 ≡ j - j = omega arith in row-empty t i j ∙ ap (λ m. folded tallied t (rowIn table i j m)) z
+
+    -- where none of n is near, none is counted
+    row-far : ((c : ℕ) → c < n → sharePoint (boxIn bounds i) (boxIn bounds (j + c)) ≡ false) → (t : Tally) → folded tallied t (rowIn table i j n) ≡ t
+    row-far none t =
+        ap (λ m. folded tallied t (rowIn table i j m)) (from-none n)
+        ∙ (row-skip t i j 0 n (λ c l h. far-in i (j + c) first (each-ready c (omega (arith, h))) (none c (omega (arith, h)))) ∙ sym (row-empty t i j))
+      where
+        from-none : (n : ℕ) → n ≡ 0 + n
+        from-none n = omega arith
+
+  -- ---- rows
+  tally-more : (i j n a : ℕ) → tallyIn table i (a + 1) j n ≡ folded tallied (tallyIn table i a j n) (rowIn table (i + a) j n)
+  unfolding tallyIn
+  tally-more i j n a =
+      ap (folded tallied noneYet) (ap (each rows) (one-more a) ∙ (each-append rows (upTo a) (a ∷ []) ∙ ap (λ r. each rows (upTo a) ++ r) (each-one rows a)))
+      ∙ folded-append tallied noneYet (each rows (upTo a)) (rowIn table (i + a) j n)
+    where
+      rows : ℕ → List (List Float)
       rows c = rowIn table (i + c) j n
+
+  tally-skip : (i j n a k : ℕ) → ((c : ℕ) → a ≤ c → c < a + k → (t : Tally) → folded tallied t (rowIn table (i + c) j n) ≡ t) → tallyIn table i (a + k) j n ≡ tallyIn table i a j n
+  tally-skip i j n a zero none = ap (λ m. tallyIn table i m j n) (add-zero a)
+  tally-skip i j n a (suc k) none =
+      ap (λ m. tallyIn table i m j n) (next a k)
+      ∙ (tally-more i j n (a + k) ∙ (none (a + k) (omega arith) (omega arith) (tallyIn table i (a + k) j n) ∙ tally-skip i j n a k (λ c l h. none c l (omega (arith, h)))))
+    where
+      next : (a k : ℕ) → a + suc k ≡ a + k + 1
+      next a k = omega arith
+
+  tally-empty : (i j n : ℕ) → noneYet ≡ tallyIn table i 0 j n
+  unfolding tallyIn upTo each folded
+  tally-empty i j n = refl
+
+  -- the box of each of n triangles lies in the box around them
+  held-in : (j n : ℕ) → ReadyFrom table bounds j n → (c : ℕ) → c < n → FiniteBox (boxOver bounds j n) × Within (boxIn bounds (j + c)) (boxOver bounds j n)
+  held-in j n ready = holds-all bounds j n (λ c h. finite-in (j + c) (ready c h))
+
+  -- what shares no point with that box has no near one among them
+  whole-far : (a j n : ℕ) → ReadyAt table bounds a → ReadyFrom table bounds j n → sharePoint (boxOver bounds j n) (boxIn bounds a) ≡ false → (c : ℕ) → c < n → sharePoint (boxIn bounds a) (boxIn bounds (j + c)) ≡ false
+  whole-far a j n first ready h c l =
+      let w = held-in j n ready c l in
+      let fa = finite-in a first in
+      no-point-turned (boxIn bounds (j + c)) (boxIn bounds a) (none-within (boxIn bounds (j + c)) (boxOver bounds j n) (boxIn bounds a) (boxIn bounds a) (finite-in (j + c) (ready c l)) (w .0) fa fa (w .1) (within-self (boxIn bounds a)) h)
+
+  module _ (i m j n : ℕ) (tests-ready : ReadyFrom table bounds i m) (each-ready : ReadyFrom table bounds j n) where
+    pub tally-on : (k : ℕ) {s : Tally} {whole : Box} {k' : ℕ} → i ≤ k → k ≤ i + m → whole ≡ boxOver bounds j n → s ≡ tallyIn table i (k - i) j n → k' ≡ nextNear bounds whole (i + m - k) k → (k ≤ k') × (k' ≤ i + m) × (s ≡ tallyIn table i (k' - i) j n)
+    tally-on k {s} {whole} {k'} low high hw hs hk =
+        let p = passes-over bounds (boxOver bounds j n) (i + m - k) k in
+        let e : k' ≡ nextNear bounds (boxOver bounds j n) (i + m - k) k = hk ∙ ap (λ x. nextNear bounds x (i + m - k) k) hw in
+        let least = p .least in
+        let most = p .most in
+        let le : k ≤ k' = omega (arith, e, least) in
+        let ge : k' ≤ i + m = omega (arith, e, most, high) in
+        let parts : k' - i ≡ k - i + (k' - k) = omega (arith, low, le) in
+        let same = tally-skip i j n (k - i) (k' - k) (λ c l h. let r = tests-ready c (omega (arith, l, h, low, ge, le)) in row-far (i + c) j n r each-ready (whole-far (i + c) j n r each-ready (p .none (i + c) (omega (arith, l, low)) (omega (arith, h, low, e, le))))) in
+        (le, ge, hs ∙ (sym same ∙ ap (λ a. tallyIn table i a j n) (sym parts)))
+
+    pub tally-turn : (k : ℕ) {s r : Tally} → i ≤ k → s ≡ tallyIn table i (k - i) j n → r ≡ folded tallied s (rowIn table k j n) → r ≡ tallyIn table i (k + 1 - i) j n
+    tally-turn k low hs hr =
+        let at : i + (k - i) ≡ k = omega (arith, low) in
+        let behind : k - i + 1 ≡ k + 1 - i = omega (arith, low) in
+        hr ∙ (ap₂ (λ t a. folded tallied t (rowIn table a j n)) hs (sym at) ∙ (sym (tally-more i j n (k - i)) ∙ ap (λ a. tallyIn table i a j n) behind))
+
+    pub tally-start : noneYet ≡ tallyIn table i (i - i) j n
+    tally-start = let z : 0 ≡ i - i = omega arith in tally-empty i j n ∙ ap (λ a. tallyIn table i a j n) z
+
+    -- where the boxes around the ones and around the others share no point, nothing is counted
+    pub tally-far : sharePoint (boxOver bounds i m) (boxOver bounds j n) ≡ false → tallyIn table i m j n ≡ noneYet
+    tally-far h =
+        ap (λ a. tallyIn table i a j n) (from-none m)
+        ∙ (tally-skip i j n 0 m (λ a l g. let r = tests-ready a (omega (arith, g)) in row-far (i + a) j n r each-ready (λ c k. pair-far a (omega (arith, g)) c k)) ∙ sym (tally-empty i j n))
+      where
+        from-none : (m : ℕ) → m ≡ 0 + m
+        from-none m = omega arith
+
+        pair-far : (a : ℕ) → a < m → (c : ℕ) → c < n → sharePoint (boxIn bounds (i + a)) (boxIn bounds (j + c)) ≡ false
+        pair-far a ha c hc =
+            let u = held-in i m tests-ready a ha in
+            let v = held-in j n each-ready c hc in
+            none-within (boxIn bounds (i + a)) (boxOver bounds i m) (boxIn bounds (j + c)) (boxOver bounds j n) (finite-in (i + a) (tests-ready a ha)) (u .0) (finite-in (j + c) (each-ready c hc)) (v .0) (u .1) (v .1) h

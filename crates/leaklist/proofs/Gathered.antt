@@ -1,4 +1,4 @@
--- What is gathered is what there is by the rules: counts from the table are counts from the file, and pair by pair, row by row, all leaks come in table order, and all that only touch are counted. Assumes nothing.
+-- What is gathered is what there is by the rules: counts from the table are counts from the file, and pair by pair, row by row, all leaks come in table order, all that only touch are counted, and so are all triangle pairs that were tested. Assumes nothing.
 use Prim.Native.Nat.{ℕ, zero, suc, _+_, _-_, _*_, _/_, _<_, _≤_}
 use mathlib.Core.Path.{_≡_, refl, sym, ap, ap₂, subst, _∙_}
 use mathlib.Core.Bool.{Bool, true, false, cond}
@@ -10,21 +10,30 @@ use lib.ListN.{length}
 use lib.Ieee.{Float}
 use Rattle.floats.specs.Lists.{filter, once}
 use Rattle.floats.proofs.Lists.{filter-append}
-use Rattle.triangles.specs.Decision.{decisionOf}
-use Rattle.shapes.specs.Shapes.{Made, twelve}
+use Rattle.floats.specs.Finite.{finite}
+use Rattle.floats.proofs.Lists.{so, os, all-at}
+use Rattle.shapes.specs.declared.Shape.{Shape}
+use Rattle.shapes.specs.Shapes.{Made, sixOf, twelve}
+use Rattle.boxes.specs.declared.Box.{Box}
+use Rattle.boxes.specs.Boxes.{sharePoint}
+use Rattle.boxed.specs.Tables.{boxIn, boxOver}
+use Rattle.centimetres.proofs.Pair.{values, values-finite}
 use Rattle.layout.specs.declared.Entry.{Entry}
 use Rattle.layout.specs.Bytes.{u32At}
-use Rattle.layout.specs.Parts.{tablePlace, countOf, entryFrom, entryPlace, entryAt, trianglesOf}
+use Rattle.layout.specs.Parts.{numbersOf, tablePlace, countOf, entryFrom, entryPlace, entryAt, triangleFrom, triangleAt, trianglesOf}
 use Rattle.layout.specs.Layout.{Layout}
+use Rattle.layout.specs.Recordings.{f64At}
 use Rattle.layout.specs.Inside.{Inside}
 use Rattle.layout.proofs.Inside.{parts-inside}
 use Rattle.listing.specs.declared.Tally.{Tally}
 use Rattle.listing.specs.Turns.{upTo, each, folded}
-use Rattle.listing.specs.Pairs.{isTest, isTraining, placeIn, coordinatesAt, decisionAt, decisions, noneYet, tallied, tallyOf, onlyTouch}
+use Rattle.listing.specs.Pairs.{isTest, isTraining, placeIn, coordinatesAt, valuesAt, trianglePairs, noneYet, tallied, tallyOf, onlyTouch}
 use Rattle.listing.specs.Leaks.{Leak, tests, trainings, recordingPairs, tallyFor, isLeak, leakPairs, leakOf, leaks, isTouching, touchingPairs, touching}
-use Rattle.listing.proofs.Turns.{below, map-append, each-append}
+use Rattle.listing.proofs.Turns.{below, map-append, each-append, sum-from}
+use Rattle.listing.proofs.Demand.{tested-walked}
 use Rattle.writing.specs.Triples.{leaksIn}
-use Rattle.leaklist.specs.Code.{shapeFrom, MadeFrom, Prepared, decisionIn, rowIn, tallyIn, Gathering, Found, foundIn, nothing, together, leakOn, foundOn, foundFor, itemOf, rowTo, testOf, listTo, foundByRules}
+use Rattle.leaklist.specs.Code.{shapeFrom, Prepared, Framed, Owned, ReadyAt, ReadyFrom, valuesIn, rowIn, tallyIn, Gathering, Found, foundIn, nothing, together, leakOn, foundOn, foundFor, itemOf, rowTo, testOf, listTo, foundByRules}
+use Rattle.leaklist.proofs.Counted.{tally-far}
 
 -- ---- the recording's triangles by number
 module _ (file : List ℕ) (good : Layout file) (i : ℕ) (there-is : i < countOf file) where
@@ -50,7 +59,7 @@ pub few-triangles : (file : List ℕ) → Layout file → trianglesOf file ≤ 2
 unfolding trianglesOf
 few-triangles file good = let f = good .filled in let m = good .atMost65536 in omega (arith, f, m)
 
--- ---- prepared shapes are made, and decisions from them are those of the file
+-- ---- prepared shapes are made and have finite coordinates, and the pairs of them are those of the file
 made-from : (file : List ℕ) (at : ℕ) → Made (shapeFrom file at)
 unfolding shapeFrom
 made-from file at = refl
@@ -59,13 +68,26 @@ twelve-from : (file : List ℕ) (p q : ℕ) → twelve (shapeFrom file p) (shape
 unfolding shapeFrom coordinatesAt
 twelve-from file p q = refl
 
-module _ (file : List ℕ) (table : List Float) (g : Gathering file table) where
-  pub all-made : (j n : ℕ) → j + n ≤ trianglesOf file → MadeFrom table j n
-  all-made j n h b k = subst Made (sym (g .prepared (j + b) (omega (arith, h, k)))) (made-from file (24 * (j + b)))
+finite-from : (file : List ℕ) → Layout file → (k : ℕ) → k < trianglesOf file → (v : Float) → List·Memᴰ v (sixOf (shapeFrom file (24 * k))) → finite v ≡ true
+unfolding shapeFrom f64At triangleAt triangleFrom
+finite-from file good k h v m = so (all-at finite (values (numbersOf (triangleAt file k))) {x = v} (os (values-finite (numbersOf (triangleAt file k)) (good .inRange k fits))) m)
+  where
+    fits : 24 * k + 24 ≤ tablePlace file
+    fits = let l : k < tablePlace file / 24 = (unfold trianglesOf in h) in omega (arith, l)
 
-  decision-is : (p q : ℕ) → p < trianglesOf file → q < trianglesOf file → decisionIn table p q ≡ decisionOf (coordinatesAt file (24 * p) ++ coordinatesAt file (24 * q))
-  unfolding decisionIn
-  decision-is p q h k = ap decisionOf (ap₂ twelve (g .prepared p h) (g .prepared q k) ∙ twelve-from file (24 * p) (24 * q))
+module _ (file : List ℕ) (table bounds own : List Float) (g : Gathering file table bounds own) where
+  ready-at : (k : ℕ) → k < trianglesOf file → ReadyAt table bounds k
+  ready-at k h = record {
+    made = subst Made (sym (g .prepared k h)) (made-from file (24 * k));
+    allFinite = subst (λ s. (v : Float) → List·Memᴰ v (sixOf s) → finite v ≡ true) (sym (g .prepared k h)) (finite-from file (g .good) k h);
+    framed = g .framed k h;
+  }
+
+  pub all-ready : (j n : ℕ) → j + n ≤ trianglesOf file → ReadyFrom table bounds j n
+  all-ready j n h b k = ready-at (j + b) (omega (arith, h, k))
+
+  values-are : (p q : ℕ) → p < trianglesOf file → q < trianglesOf file → valuesIn table p q ≡ coordinatesAt file (24 * p) ++ coordinatesAt file (24 * q)
+  values-are p q h k = ap₂ twelve (g .prepared p h) (g .prepared q k) ∙ twelve-from file (24 * p) (24 * q)
 
 map-same : {A B : Type 0} (f h : A → B) (xs : List A) → ((x : A) → List·Memᴰ x xs → f x ≡ h x) → map f xs ≡ map h xs
 map-same f h [] same = refl
@@ -76,42 +98,68 @@ unfolding each
 each-same f h [] same = refl
 each-same f h (x ∷ xs) same = ap₂ _++_ (same x (here refl)) (each-same f h xs (λ y m. same y (there m)))
 
-module _ (file : List ℕ) (table : List Float) (g : Gathering file table) (i j : ℕ) (hi : i < countOf file) (hj : j < countOf file) where
+map-map : {A B C : Type 0} (g : B → C) (f : A → B) (xs : List A) → map g (map f xs) ≡ map (λ x. g (f x)) xs
+map-map g f [] = refl
+map-map g f (x ∷ xs) = ap (g (f x) ∷_) (map-map g f xs)
+
+map-each : {A B C : Type 0} (g : B → C) (f : A → List B) (xs : List A) → map g (each f xs) ≡ each (λ x. map g (f x)) xs
+unfolding each
+map-each g f [] = refl
+map-each g f (x ∷ xs) = map-append g (f x) (each f xs) ∙ ap (λ r. map g (f x) ++ r) (map-each g f xs)
+
+module _ (file : List ℕ) (table bounds own : List Float) (g : Gathering file table bounds own) (i j : ℕ) (hi : i < countOf file) (hj : j < countOf file) where
   abbrev test : Entry
   test = entryAt file i
 
   abbrev train : Entry
   train = entryAt file j
 
-  pair-is : (a b : ℕ) → a < test .count → b < train .count → decisionIn table (test .first / 24 + a) (train .first / 24 + b) ≡ decisionAt file test train a b
-  unfolding decisionAt
+  pair-is : (a b : ℕ) → a < test .count → b < train .count → valuesIn table (test .first / 24 + a) (train .first / 24 + b) ≡ valuesAt file test train a b
+  unfolding valuesAt
   pair-is a b h k =
       let p = in-table file (g .good) i hi in
       let q = in-table file (g .good) j hj in
-      decision-is file table g (test .first / 24 + a) (train .first / 24 + b) (omega (arith, p, h)) (omega (arith, q, k))
-      ∙ ap₂ (λ x y. decisionOf (coordinatesAt file x ++ coordinatesAt file y)) (place-is file (g .good) i hi a) (place-is file (g .good) j hj b)
+      values-are file table bounds own g (test .first / 24 + a) (train .first / 24 + b) (omega (arith, p, h)) (omega (arith, q, k))
+      ∙ ap₂ (λ x y. coordinatesAt file x ++ coordinatesAt file y) (place-is file (g .good) i hi a) (place-is file (g .good) j hj b)
 
-  row-is : (a : ℕ) → a < test .count → rowIn table (test .first / 24 + a) (train .first / 24) (train .count) ≡ map (decisionAt file test train a) (upTo (train .count))
+  abbrev valuesOf : ℕ × ℕ → List Float
+  valuesOf p = valuesAt file test train (p .0) (p .1)
+
+  row-is : (a : ℕ) → a < test .count → rowIn table (test .first / 24 + a) (train .first / 24) (train .count) ≡ map valuesOf (map (λ b. (a, b)) (upTo (train .count)))
   unfolding rowIn
-  row-is a h = map-same (λ b. decisionIn table (test .first / 24 + a) (train .first / 24 + b)) (decisionAt file test train a) (upTo (train .count)) (λ b m. pair-is a b h (below (train .count) m))
+  row-is a h =
+      map-same (λ b. valuesIn table (test .first / 24 + a) (train .first / 24 + b)) (valuesAt file test train a) (upTo (train .count)) (λ b m. pair-is a b h (below (train .count) m))
+      ∙ sym (map-map valuesOf (λ b. (a, b)) (upTo (train .count)))
 
   -- what is counted from the table is what is counted from the file
   pub count-is : tallyIn table (test .first / 24) (test .count) (train .first / 24) (train .count) ≡ tallyFor file (i, j)
-  unfolding tallyIn tallyFor tallyOf decisions
-  count-is = ap (folded tallied noneYet) (each-same (λ a. rowIn table (test .first / 24 + a) (train .first / 24) (train .count)) (λ a. map (decisionAt file test train a) (upTo (train .count))) (upTo (test .count)) (λ a m. row-is a (below (test .count) m)))
+  unfolding tallyIn tallyFor tallyOf trianglePairs
+  count-is =
+      ap (folded tallied noneYet)
+      (each-same (λ a. rowIn table (test .first / 24 + a) (train .first / 24) (train .count)) (λ a. map valuesOf (map (λ b. (a, b)) (upTo (train .count)))) (upTo (test .count)) (λ a m. row-is a (below (test .count) m))
+      ∙ sym (map-each valuesOf (λ a. map (λ b. (a, b)) (upTo (train .count))) (upTo (test .count))))
+
+  -- where the own boxes of two recordings share no point, nothing is counted
+  pub far-none : sharePoint (boxIn own i) (boxIn own j) ≡ false → tallyFor file (i, j) ≡ noneYet
+  far-none h =
+      let p = in-table file (g .good) i hi in
+      let q = in-table file (g .good) j hj in
+      sym count-is
+      ∙ tally-far table bounds (test .first / 24) (test .count) (train .first / 24) (train .count) (all-ready file table bounds own g (test .first / 24) (test .count) p) (all-ready file table bounds own g (train .first / 24) (train .count) q)
+      (sym (ap₂ sharePoint (g .owned i hi) (g .owned j hj)) ∙ h)
 
 -- ---- as the code comes to it: two entries as they were read
-module _ (file : List ℕ) (table : List Float) (g : Gathering file table) (i j : ℕ) (hi : i < countOf file) (hj : j < countOf file) where
-  pub tally-fits : {e f : Entry} → e ≡ entryAt file i → f ≡ entryAt file j →
-      MadeFrom table (e .first / 24) (e .count) × MadeFrom table (f .first / 24) (f .count) × (e .first / 24 + e .count ≤ 2730) × (f .first / 24 + f .count ≤ 2730) × (length table ≡ 30030)
-  tally-fits p q =
+module _ (file : List ℕ) (table bounds own : List Float) (g : Gathering file table bounds own) (i j : ℕ) (hi : i < countOf file) (hj : j < countOf file) where
+  pub tally-fits : {e f : Entry} {whole : Box} → e ≡ entryAt file i → f ≡ entryAt file j → whole ≡ boxIn own j →
+      ReadyFrom table bounds (e .first / 24) (e .count) × ReadyFrom table bounds (f .first / 24) (f .count) × (e .first / 24 + e .count ≤ 2730) × (f .first / 24 + f .count ≤ 2730) × (length table ≡ 30030) × (whole ≡ boxOver bounds (f .first / 24) (f .count))
+  tally-fits p q w =
       let a = in-table file (g .good) i hi in
       let b = in-table file (g .good) j hj in
       let few = few-triangles file (g .good) in
-      rw (p, q) (all-made file table g (entryAt file i .first / 24) (entryAt file i .count) a, all-made file table g (entryAt file j .first / 24) (entryAt file j .count) b, omega (arith, a, few), omega (arith, b, few), g .size)
+      rw (p, q) (all-ready file table bounds own g (entryAt file i .first / 24) (entryAt file i .count) a, all-ready file table bounds own g (entryAt file j .first / 24) (entryAt file j .count) b, omega (arith, a, few), omega (arith, b, few), g .size, w ∙ g .owned j hj)
 
   pub count-by : {e f : Entry} {t : Tally} → e ≡ entryAt file i → f ≡ entryAt file j → t ≡ tallyIn table (e .first / 24) (e .count) (f .first / 24) (f .count) → t ≡ tallyFor file (i, j)
-  count-by p q h = h ∙ (ap₂ (λ e f. tallyIn table (e .first / 24) (e .count) (f .first / 24) (f .count)) p q ∙ count-is file table g i j hi hj)
+  count-by p q h = h ∙ (ap₂ (λ e f. tallyIn table (e .first / 24) (e .count) (f .first / 24) (f .count)) p q ∙ count-is file table bounds own g i j hi hj)
 
 -- ---- an entry as it is read
 pub entry-is : (file : List ℕ) (i at : ℕ) {r : Entry} → at ≡ tablePlace file → r ≡ entryFrom file (at + 12 * i) → r ≡ entryAt file i
@@ -119,20 +167,20 @@ unfolding entryAt entryPlace
 entry-is file i at h p = p ∙ ap (λ t. entryFrom file (t + 12 * i)) h
 
 -- ---- one after the other
-abbrev foundBy : List Leak → ℕ → Found
-foundBy ls t = record { leaks = ls; touching = t }
+abbrev foundBy : List Leak → ℕ → ℕ → Found
+foundBy ls t k = record { leaks = ls; touching = t; tested = k }
 
-found-same : {ls ms : List Leak} {t u : ℕ} → ls ≡ ms → t ≡ u → foundBy ls t ≡ foundBy ms u
-found-same p q = rw (p, q) refl
+found-same : {ls ms : List Leak} {t u k l : ℕ} → ls ≡ ms → t ≡ u → k ≡ l → foundBy ls t k ≡ foundBy ms u l
+found-same p q r = rw (p, q, r) refl
 
 assoc : (a b c : Found) → together (together a b) c ≡ together a (together b c)
-assoc a b c = found-same (append-assoc (a .leaks) (b .leaks) (c .leaks)) (omega arith)
+assoc a b c = found-same (append-assoc (a .leaks) (b .leaks) (c .leaks)) (omega arith) (omega arith)
 
 none-behind : (a : Found) → together a nothing ≡ a
-none-behind a = found-same (append-nil (a .leaks)) (omega arith)
+none-behind a = found-same (append-nil (a .leaks)) (omega arith) (omega arith)
 
 none-before : (a : Found) → together nothing a ≡ a
-none-before a = found-same refl (omega arith)
+none-before a = found-same refl (omega arith) (omega arith)
 
 -- ---- pair by pair
 module _ (file : List ℕ) (i j : ℕ) where
@@ -144,9 +192,23 @@ module _ (file : List ℕ) (i j : ℕ) where
   unfolding itemOf foundFor
   an-item {e} {f} {t} he hf z ht = rw (he, hf, ht, eq-eqb (entryAt file j .set) 0 (ap (λ x. x .set) (sym hf) ∙ z)) refl
 
--- a leak added, and one more that only touches, if they do
-pub pair-added : (before : Found) (test train : ℕ) (t : Tally) {ls : List Leak} {more n : ℕ} → ls ≡ before .leaks ++ leakOn test train t → more ≡ once (onlyTouch t) → n ≡ before .touching + more → foundBy ls n ≡ together before (foundOn test train t)
-pair-added before test train t p q r = found-same p (r ∙ ap (λ k. before .touching + k) q)
+  -- how many of its triangle pairs were given to the triangle rules
+  pub item-tested : {f : Entry} {t : Tally} → f ≡ entryAt file j → f .set ≡ 0 → t ≡ tallyFor file (i, j) → t .tested ≡ itemOf file i j .tested
+  unfolding itemOf foundFor
+  item-tested {f} {t} hf z ht = ap (λ x. x .tested) ht ∙ sym (rw (eq-eqb (entryAt file j .set) 0 (ap (λ x. x .set) (sym hf) ∙ z)) refl)
+
+  -- nothing, where nothing is counted of the two
+  pub empty-item : tallyFor file (i, j) ≡ noneYet → nothing ≡ itemOf file i j
+  unfolding itemOf foundFor
+  empty-item h = rw h (go (isTraining (entryAt file j)))
+    where
+      go : (b : Bool) → nothing ≡ cond b (foundOn (entryAt file i .id) (entryAt file j .id) noneYet) nothing
+      go true = refl
+      go false = refl
+
+-- a leak added, and one more that only touches, if they do, and the pairs that were tested
+pub pair-added : (before : Found) (test train : ℕ) (t : Tally) {ls : List Leak} {more n k : ℕ} → ls ≡ before .leaks ++ leakOn test train t → more ≡ once (onlyTouch t) → n ≡ before .touching + more → k ≡ before .tested + t .tested → foundBy ls n k ≡ together before (foundOn test train t)
+pair-added before test train t p q r u = found-same p (r ∙ ap (λ k. before .touching + k) q) u
 
 -- what is gathered in several steps
 pub with-nothing : (a : Found) {item : Found} → nothing ≡ item → a ≡ together a item
@@ -170,7 +232,11 @@ pub a-test : (file : List ℕ) (i : ℕ) (a : Found) {e : Entry} {b : Found} →
 unfolding testOf
 a-test file i a h z p = p ∙ ap (together a) (sym (rw (eq-eqb (entryAt file i .set) 1 (ap (λ x. x .set) (sym h) ∙ z)) refl))
 
-pub list-none : (file found : List ℕ) → foundIn found (record { leaks = 0; touching = 0 }) ≡ listTo file 0
+pub test-tested : (file : List ℕ) (i : ℕ) {e : Entry} → e ≡ entryAt file i → e .set ≡ 1 → rowTo file i (countOf file) .tested ≡ testOf file i .tested
+unfolding testOf
+test-tested file i h z = sym (rw (eq-eqb (entryAt file i .set) 1 (ap (λ x. x .set) (sym h) ∙ z)) refl)
+
+pub list-none : (file found : List ℕ) → foundIn found (record { leaks = 0; touching = 0; tested = 0 }) ≡ listTo file 0
 unfolding leaksIn listTo
 list-none file found = refl
 
@@ -192,19 +258,29 @@ module _ (file : List ℕ) where
   over-append [] qs = sym (none-before (over qs))
   over-append (p ∷ ps) qs = ap (together (foundFor file p)) (over-append ps qs) ∙ sym (assoc (foundFor file p) (over ps) (over qs))
 
-  -- the leaks among them, and those that only touch
-  over-is : (ps : List (ℕ × ℕ)) → over ps ≡ foundBy (map (leakOf file) (filter (isLeak file) ps)) (length (filter (isTouching file) ps))
+  -- how many triangle pairs of these were tested
+  abbrev testedIn : List (ℕ × ℕ) → ℕ
+  testedIn ps = folded _+_ 0 (map (λ p. tallyFor file p .tested) ps)
+
+  -- the leaks among them, those that only touch, and that number
+  over-is : (ps : List (ℕ × ℕ)) → over ps ≡ foundBy (map (leakOf file) (filter (isLeak file) ps)) (length (filter (isTouching file) ps)) (testedIn ps)
   unfolding over filter
-  over-is [] = refl
+  over-is [] = unfold folded in refl
   over-is (p ∷ ps) = ap (together (foundFor file p)) (over-is ps) ∙ (unfold foundFor leakOf in go (isLeak file p) (isTouching file p))
     where
+      more : tallyFor file p .tested + testedIn ps ≡ testedIn (p ∷ ps)
+      more = from-none (tallyFor file p .tested) (testedIn ps) ∙ (sym (sum-from (0 + tallyFor file p .tested) (map (λ p. tallyFor file p .tested) ps)) ∙ (unfold folded in refl))
+        where
+          from-none : (n k : ℕ) → n + k ≡ 0 + n + k
+          from-none n k = omega arith
+
       go : (b c : Bool) →
-          together (foundBy (cond b (record { test = entryAt file (p .0) .id; train = entryAt file (p .1) .id; pairs = tallyFor file p .overlapping } ∷ []) []) (once c)) (foundBy (map (leakOf file) (filter (isLeak file) ps)) (length (filter (isTouching file) ps)))
-          ≡ foundBy (map (leakOf file) (cond b (p ∷ filter (isLeak file) ps) (filter (isLeak file) ps))) (length (cond c (p ∷ filter (isTouching file) ps) (filter (isTouching file) ps)))
-      go true true = unfold leakOf in found-same refl (omega arith)
-      go true false = unfold leakOf in found-same refl (omega arith)
-      go false true = found-same refl (omega arith)
-      go false false = found-same refl (omega arith)
+          together (foundBy (cond b (record { test = entryAt file (p .0) .id; train = entryAt file (p .1) .id; pairs = tallyFor file p .overlapping } ∷ []) []) (once c) (tallyFor file p .tested)) (foundBy (map (leakOf file) (filter (isLeak file) ps)) (length (filter (isTouching file) ps)) (testedIn ps))
+          ≡ foundBy (map (leakOf file) (cond b (p ∷ filter (isLeak file) ps) (filter (isLeak file) ps))) (length (cond c (p ∷ filter (isTouching file) ps) (filter (isTouching file) ps))) (testedIn (p ∷ ps))
+      go true true = unfold leakOf in found-same refl (omega arith) more
+      go true false = unfold leakOf in found-same refl (omega arith) more
+      go false true = found-same refl (omega arith) more
+      go false false = found-same refl (omega arith) more
 
   abbrev trainingAt : ℕ → Bool
   trainingAt j = isTraining (entryAt file j)
@@ -252,9 +328,12 @@ module _ (file : List ℕ) where
       ∙ (ap over (each-append (λ i. pairsWith i (filter trainingAt (upTo (countOf file)))) (filter testAt (upTo n)) (filter testAt (n ∷ [])))
       ∙ (over-append (rows (filter testAt (upTo n))) (rows (filter testAt (n ∷ []))) ∙ ap₂ together (list-all n) (one-test n)))
 
-  pub gathered : listTo file (countOf file) ≡ foundByRules file
+  by-walk : listTo file (countOf file) ≡ foundBy (leaks file) (touching file) (testedIn (recordingPairs file))
   unfolding leaks leakPairs touching touchingPairs recordingPairs tests trainings
-  gathered = sym (list-all (countOf file)) ∙ over-is (recordingPairs file)
+  by-walk = sym (list-all (countOf file)) ∙ over-is (recordingPairs file)
+
+  pub gathered : listTo file (countOf file) ≡ foundByRules file
+  gathered = by-walk ∙ found-same refl refl (sym (tested-walked file))
 
 -- ---- the trailer's numbers as they are read
 pub table-read : (file : List ℕ) {at : ℕ} → at ≡ u32At file (length file - 12) → at ≡ tablePlace file
@@ -269,5 +348,5 @@ pub triangles-read : (file : List ℕ) {at : ℕ} → at ≡ tablePlace file →
 unfolding trianglesOf
 triangles-read file h = ap (λ t. t / 24) h
 
-pub ready : (file : List ℕ) (table : List Float) {n : ℕ} → Layout file → length table ≡ 30030 → n ≡ trianglesOf file → Prepared file n table → Gathering file table
-ready file table good size e p = record { good = good; size = size; prepared = subst (λ k. Prepared file k table) e p }
+pub ready : (file : List ℕ) (table bounds own : List Float) {n m : ℕ} → Layout file → length table ≡ 30030 → n ≡ trianglesOf file → m ≡ countOf file → Prepared file (trianglesOf file) table → Framed table n bounds → Owned file bounds m own → Gathering file table bounds own
+ready file table bounds own good size e f p q r = record { good = good; size = size; prepared = p; framed = subst (λ k. Framed table k bounds) e q; owned = subst (λ k. Owned file bounds k own) f r }

@@ -1,16 +1,20 @@
--- The steps of the writer: prepared triangles, counts from them, leaks recording by recording. That they come to the list of the rules is the writer's promise. Definitions only.
-use Prim.Native.Nat.{ℕ, zero, suc, _+_, _*_, _<_}
+-- The steps of the writer: prepared triangles and boxes, counts from them, leaks recording by recording. That they come to the list of the rules is the writer's promise. Definitions only.
+use Prim.Native.Nat.{ℕ, zero, suc, _+_, _*_, _/_, _<_}
 use mathlib.Core.Path.{_≡_}
-use mathlib.Core.Bool.{cond}
-use mathlib.Core.List.{List, [], _∷_, _++_, map}
+use mathlib.Core.Bool.{true, cond}
+use mathlib.Core.List.{List, [], _∷_, _++_, map, List·Memᴰ}
 use lib.Dec.{eqb}
 use lib.ListN.{length, getD}
 use lib.Ieee.{Float, nan}
+use Rattle.floats.specs.Finite.{finite}
 use Rattle.floats.specs.declared.Position.{Position}
 use Rattle.triangles.specs.declared.Decision.{Decision}
-use Rattle.triangles.specs.Decision.{decisionOf}
+use Rattle.triangles.specs.Decision.{overlaps, touches}
 use Rattle.shapes.specs.declared.Shape.{Shape}
-use Rattle.shapes.specs.Shapes.{shapeOf, Made, twelve}
+use Rattle.shapes.specs.Shapes.{shapeOf, Made, sixOf, twelve}
+use Rattle.boxes.specs.declared.Box.{Box}
+use Rattle.boxes.specs.Boxes.{boxOf}
+use Rattle.boxed.specs.Tables.{boxIn, boxOver}
 use Rattle.layout.specs.Parts.{countOf, entryAt, trianglesOf}
 use Rattle.layout.specs.Layout.{Layout}
 use Rattle.layout.specs.Recordings.{f64At}
@@ -20,7 +24,7 @@ use Rattle.listing.specs.declared.Tally.{Tally}
 use Rattle.listing.specs.declared.Counts.{Counts}
 use Rattle.listing.specs.Turns.{upTo, each, folded}
 use Rattle.listing.specs.Pairs.{isTest, isTraining, tallied, noneYet, leak, onlyTouch}
-use Rattle.listing.specs.Leaks.{Leak, tallyFor, leaks, touching}
+use Rattle.listing.specs.Leaks.{Leak, tallyFor, leaks, touching, tested}
 use Rattle.listing.specs.Words.{listText, refusedLine}
 use Rattle.listing.specs.Listing.{listOf}
 use Rattle.writing.specs.Triples.{leaksIn}
@@ -51,47 +55,71 @@ shapeIn table k = record {
 unfoldable pub shapeFrom : List ℕ → ℕ → Shape
 shapeFrom file at = shapeOf (f64At file at) (f64At file (at + 4)) (f64At file (at + 8)) (f64At file (at + 12)) (f64At file (at + 16)) (f64At file (at + 20))
 
--- n triangles of the table, from j on, are as they are prepared
-abbrev pub MadeFrom : List Float → ℕ → ℕ → Type 0
-MadeFrom table j n = (b : ℕ) → b < n → Made (shapeIn table (j + b))
-
 -- the first n triangles of the file stand in the table
 abbrev pub Prepared : List ℕ → ℕ → List Float → Type 0
 Prepared file n table = (k : ℕ) → k < n → shapeIn table k ≡ shapeFrom file (24 * k)
 
--- ---- decisions and counts from the table: m test triangles from i on, n training triangles from j on
-unfoldable pub decisionIn : List Float → ℕ → ℕ → Decision
-decisionIn table i j = decisionOf (twelve (shapeIn table i) (shapeIn table j))
+-- ---- boxes: of the triangles of the table, in a table of their own, and of the recordings, in a third
+abbrev pub boxOfShape : Shape → Box
+boxOfShape s = boxOf (s .x0) (s .y0) (s .x1) (s .y1) (s .x2) (s .y2)
 
-unfoldable pub rowIn : List Float → ℕ → ℕ → ℕ → List Decision
-unfolding decisionIn
-rowIn table i j n = map (λ b. decisionIn table i (j + b)) (upTo n)
+-- the boxes of the first n triangles
+abbrev pub Framed : List Float → ℕ → List Float → Type 0
+Framed table n bounds = (k : ℕ) → k < n → boxIn bounds k ≡ boxOfShape (shapeIn table k)
+
+-- the own boxes of the first n recordings, each around the boxes of its triangles
+abbrev pub Owned : List ℕ → List Float → ℕ → List Float → Type 0
+Owned file bounds n own = (k : ℕ) → k < n → boxIn own k ≡ boxOver bounds (entryAt file k .first / 24) (entryAt file k .count)
+
+-- triangle k is as it is prepared, has finite coordinates, and its box is in its place
+pub record ReadyAt (table bounds : List Float) (k : ℕ) : Type 0 where
+  pub made : Made (shapeIn table k)
+  pub allFinite : (v : Float) → List·Memᴰ v (sixOf (shapeIn table k)) → finite v ≡ true
+  pub framed : boxIn bounds k ≡ boxOfShape (shapeIn table k)
+
+-- n triangles from j on are
+abbrev pub ReadyFrom : List Float → List Float → ℕ → ℕ → Type 0
+ReadyFrom table bounds j n = (b : ℕ) → b < n → ReadyAt table bounds (j + b)
+
+-- ---- counts from the table: m test triangles from i on, n training triangles from j on
+abbrev pub valuesIn : List Float → ℕ → ℕ → List Float
+valuesIn table i j = twelve (shapeIn table i) (shapeIn table j)
+
+unfoldable pub rowIn : List Float → ℕ → ℕ → ℕ → List (List Float)
+rowIn table i j n = map (λ b. valuesIn table i (j + b)) (upTo n)
+
+-- one more pair counted that was given to the triangle rules, by what they decide
+abbrev pub talliedNear : Tally → Decision → Tally
+talliedNear t d = record { overlapping = t .overlapping + once (overlaps d); touching = t .touching + once (touches d); tested = t .tested + 1 }
 
 unfoldable pub tallyIn : List Float → ℕ → ℕ → ℕ → ℕ → Tally
 unfolding rowIn
 tallyIn table i m j n = folded tallied noneYet (each (λ a. rowIn table (i + a) j n) (upTo m))
 
--- ---- what the gathering of leaks goes by: a good file, all of its triangles in the table
-pub record Gathering (file : List ℕ) (table : List Float) : Type 0 where
+-- ---- what the gathering of leaks goes by: a good file, all of its triangles in the table, and all boxes in theirs
+pub record Gathering (file : List ℕ) (table bounds own : List Float) : Type 0 where
   pub good : Layout file
   pub size : length table ≡ 30030
   pub prepared : Prepared file (trianglesOf file) table
+  pub framed : Framed table (trianglesOf file) bounds
+  pub owned : Owned file bounds (countOf file) own
 
--- ---- what is found: leaks, and how many pairs of recordings only touch
+-- ---- what is found: leaks, how many pairs of recordings only touch, and how many triangle pairs were given to the triangle rules
 pub record Found : Type 0 where
   pub leaks : List Leak
   pub touching : ℕ
+  pub tested : ℕ
 
--- as the code holds it: so many triples, and a count
+-- as the code holds it: so many triples, and two counts
 abbrev pub foundIn : List ℕ → Counts → Found
-foundIn found c = record { leaks = leaksIn found (c .leaks); touching = c .touching }
+foundIn found c = record { leaks = leaksIn found (c .leaks); touching = c .touching; tested = c .tested }
 
 abbrev pub nothing : Found
-nothing = record { leaks = []; touching = 0 }
+nothing = record { leaks = []; touching = 0; tested = 0 }
 
 -- the one, and then the other
 abbrev pub together : Found → Found → Found
-together a b = record { leaks = a .leaks ++ b .leaks; touching = a .touching + b .touching }
+together a b = record { leaks = a .leaks ++ b .leaks; touching = a .touching + b .touching; tested = a .tested + b .tested }
 
 -- of two recordings with these ids, of which this is counted: the leak, if they leak
 abbrev pub leakOn : ℕ → ℕ → Tally → List Leak
@@ -99,7 +127,7 @@ leakOn test train t = cond (leak t) (record { test = test; train = train; pairs 
 
 -- and what is found
 abbrev pub foundOn : ℕ → ℕ → Tally → Found
-foundOn test train t = record { leaks = leakOn test train t; touching = once (onlyTouch t) }
+foundOn test train t = record { leaks = leakOn test train t; touching = once (onlyTouch t); tested = t .tested }
 
 module _ (file : List ℕ) where
   -- of a test and a training recording
@@ -131,7 +159,7 @@ module _ (file : List ℕ) where
 
   -- of the whole file, by the rules
   abbrev pub foundByRules : Found
-  foundByRules = record { leaks = leaks file; touching = touching file }
+  foundByRules = record { leaks = leaks file; touching = touching file; tested = tested file }
 
 -- ---- what is told of a file where the room is this one: the list, or how it is refused
 unfoldable pub toldOf : List ℕ → List ℕ → List ℕ

@@ -1,9 +1,10 @@
-// What is found of a file's recordings, in table order: each leak as three numbers, two ids and N; and how many pairs of recordings only touch.
+// What is found of a file's recordings, in table order: each leak as three numbers, two ids and N; how many pairs of recordings only touch; and how many triangle pairs were given to the triangle rules.
 ghost use mathlib.Core.Path.{_≡_};
 ghost use mathlib.Core.List.{_++_};
 ghost use Prim.Native.Nat.{_+_, _*_, _≤_, _<_};
 ghost use lib.ListN.{length};
 ghost use Rattle.layout.specs.Parts.{countOf, entryAt, tablePlace};
+ghost use Rattle.boxed.specs.Tables.{boxIn};
 ghost use Rattle.writing.specs.Triples.{leaksIn};
 ghost use Rattle.leaklist.specs.Code.{Gathering, foundIn, together, leakOn, itemOf, rowTo, testOf, listTo};
 use crate::tallies::tally;
@@ -23,18 +24,21 @@ fn add(found: &mut [u32], k: u32, test: u32, train: u32, t: listing::Tally) -> u
     k
 }
 
-// The test recording i with recording j.
-fn add_pair(
+// The test recording i with recording j, whose own box is `whole`.
+fn add_near(
     file: &[u8],
     table: &[f64],
+    bounds: &[f64],
+    own: &[f64],
     found: &mut [u32],
     c: listing::Counts,
     i: usize,
     e: layout::Entry,
     at: usize,
     j: usize,
+    whole: boxes::Box,
 ) -> listing::Counts
-    requires { ⌜ Gathering (now file) (now table) × (i < countOf (now file)) × (e ≡ entryAt (now file) i) × (at ≡ tablePlace (now file)) × (j < countOf (now file)) × (c .leaks < 4096) × (c .touching < 4096) × (length (now found) ≡ 12288) ⌝ }
+    requires { ⌜ Gathering (now file) (now table) (now bounds) (now own) × (i < countOf (now file)) × (e ≡ entryAt (now file) i) × (at ≡ tablePlace (now file)) × (j < countOf (now file)) × (c .leaks < 4096) × (c .touching < 4096) × (c .tested + itemOf (now file) i j .tested ≤ 4294967295) × (length (now found) ≡ 12288) × (whole ≡ boxIn (now own) j) ⌝ }
     ensures { λ r. ⌜ (foundIn (now (found .exit)) r ≡ together (foundIn (now (found .entry)) c) (itemOf (now (file .entry)) i j)) × (r .leaks ≤ c .leaks + 1) × (r .touching ≤ c .touching + 1) ⌝ }
 {
     let f = reading::entry_at(file, at + 12 * j);
@@ -43,6 +47,8 @@ fn add_pair(
     }
     let t = tally(
         table,
+        bounds,
+        whole,
         (e.first / 24) as usize,
         e.count as usize,
         (f.first / 24) as usize,
@@ -50,14 +56,44 @@ fn add_pair(
     );
     let more = counting::one_if(counting::only_touch(t));
     let touching = c.touching + more;
+    let tested = c.tested + t.tested;
     let leaks = add(found, c.leaks, e.id, f.id, t);
-    listing::Counts { leaks, touching }
+    listing::Counts {
+        leaks,
+        touching,
+        tested,
+    }
+}
+
+// The same of any recording j: where their own boxes share no point, none of their triangles' do, and nothing is found.
+fn add_pair(
+    file: &[u8],
+    table: &[f64],
+    bounds: &[f64],
+    own: &[f64],
+    found: &mut [u32],
+    c: listing::Counts,
+    i: usize,
+    e: layout::Entry,
+    at: usize,
+    j: usize,
+) -> listing::Counts
+    requires { ⌜ Gathering (now file) (now table) (now bounds) (now own) × (i < countOf (now file)) × (e ≡ entryAt (now file) i) × (at ≡ tablePlace (now file)) × (j < countOf (now file)) × (c .leaks < 4096) × (c .touching < 4096) × (c .tested + itemOf (now file) i j .tested ≤ 4294967295) × (length (now found) ≡ 12288) ⌝ }
+    ensures { λ r. ⌜ (foundIn (now (found .exit)) r ≡ together (foundIn (now (found .entry)) c) (itemOf (now (file .entry)) i j)) × (r .leaks ≤ c .leaks + 1) × (r .touching ≤ c .touching + 1) ⌝ }
+{
+    let whole = boxed::box_at(own, j);
+    if boxes::share_point(boxed::box_at(own, i), whole) {
+        return add_near(file, table, bounds, own, found, c, i, e, at, j, whole);
+    }
+    c
 }
 
 // The test recording i with each of `count` recordings.
 fn add_row(
     file: &[u8],
     table: &[f64],
+    bounds: &[f64],
+    own: &[f64],
     found: &mut [u32],
     c: listing::Counts,
     i: usize,
@@ -65,13 +101,13 @@ fn add_row(
     at: usize,
     count: usize,
 ) -> listing::Counts
-    requires { ⌜ Gathering (now file) (now table) × (i < countOf (now file)) × (e ≡ entryAt (now file) i) × (at ≡ tablePlace (now file)) × (count ≡ countOf (now file)) × (c .leaks + 64 ≤ 4096) × (c .touching + 64 ≤ 4096) × (length (now found) ≡ 12288) ⌝ }
+    requires { ⌜ Gathering (now file) (now table) (now bounds) (now own) × (i < countOf (now file)) × (e ≡ entryAt (now file) i) × (at ≡ tablePlace (now file)) × (count ≡ countOf (now file)) × (c .leaks + 64 ≤ 4096) × (c .touching + 64 ≤ 4096) × (c .tested + rowTo (now file) i (countOf (now file)) .tested ≤ 4294967295) × (length (now found) ≡ 12288) ⌝ }
     ensures { λ r. ⌜ (foundIn (now (found .exit)) r ≡ together (foundIn (now (found .entry)) c) (rowTo (now (file .entry)) i (countOf (now (file .entry))))) × (r .leaks ≤ c .leaks + 64) × (r .touching ≤ c .touching + 64) ⌝ }
 {
     let mut to = c;
     let mut j: usize = 0;
     while j < count {
-        to = add_pair(file, table, found, to, i, e, at, j);
+        to = add_pair(file, table, bounds, own, found, to, i, e, at, j);
         j = j + 1;
     }
     to
@@ -81,40 +117,45 @@ fn add_row(
 fn add_test(
     file: &[u8],
     table: &[f64],
+    bounds: &[f64],
+    own: &[f64],
     found: &mut [u32],
     c: listing::Counts,
     i: usize,
     at: usize,
     count: usize,
 ) -> listing::Counts
-    requires { ⌜ Gathering (now file) (now table) × (i < countOf (now file)) × (at ≡ tablePlace (now file)) × (count ≡ countOf (now file)) × (c .leaks + 64 ≤ 4096) × (c .touching + 64 ≤ 4096) × (length (now found) ≡ 12288) ⌝ }
+    requires { ⌜ Gathering (now file) (now table) (now bounds) (now own) × (i < countOf (now file)) × (at ≡ tablePlace (now file)) × (count ≡ countOf (now file)) × (c .leaks + 64 ≤ 4096) × (c .touching + 64 ≤ 4096) × (c .tested + testOf (now file) i .tested ≤ 4294967295) × (length (now found) ≡ 12288) ⌝ }
     ensures { λ r. ⌜ (foundIn (now (found .exit)) r ≡ together (foundIn (now (found .entry)) c) (testOf (now (file .entry)) i)) × (r .leaks ≤ c .leaks + 64) × (r .touching ≤ c .touching + 64) ⌝ }
 {
     let e = reading::entry_at(file, at + 12 * i);
     if e.set != 1 {
         return c;
     }
-    add_row(file, table, found, c, i, e, at, count)
+    add_row(file, table, bounds, own, found, c, i, e, at, count)
 }
 
 // Everything, in table order; how much.
 pub(crate) fn gather(
     file: &[u8],
     table: &[f64],
+    bounds: &[f64],
+    own: &[f64],
     found: &mut [u32],
     at: usize,
     count: usize,
 ) -> listing::Counts
-    requires { ⌜ Gathering (now file) (now table) × (at ≡ tablePlace (now file)) × (count ≡ countOf (now file)) × (length (now found) ≡ 12288) ⌝ }
+    requires { ⌜ Gathering (now file) (now table) (now bounds) (now own) × (at ≡ tablePlace (now file)) × (count ≡ countOf (now file)) × (length (now found) ≡ 12288) ⌝ }
     ensures { λ r. ⌜ (foundIn (now (found .exit)) r ≡ listTo (now (file .entry)) (countOf (now (file .entry)))) × (r .leaks ≤ 4096) ⌝ }
 {
     let mut c = listing::Counts {
         leaks: 0,
         touching: 0,
+        tested: 0,
     };
     let mut i: usize = 0;
     while i < count {
-        c = add_test(file, table, found, c, i, at, count);
+        c = add_test(file, table, bounds, own, found, c, i, at, count);
         i = i + 1;
     }
     c

@@ -1,28 +1,43 @@
--- Demand 2 of the list: a line for exactly the recordings that leak, in table order, each once, with how many of their triangle pairs overlap; and the closing line counts exactly those that only touch, each once. Assumes nothing.
-use Prim.Native.Nat.{ℕ, zero, suc, _<_}
+-- Demand 2 of the list: a line for exactly the recordings that leak, in table order, each once, with how many of their triangle pairs overlap; the closing line counts exactly those that only touch, each once; and exactly the triangle pairs whose boxes share a point are counted as tested, each once. Assumes nothing.
+use Prim.Native.Nat.{ℕ, zero, suc, _+_, _<_}
 use mathlib.Core.Path.{_≡_, refl, sym, ap, subst, _∙_}
-use mathlib.Core.Logic.{_⊎_, inl, inr}
+use mathlib.Core.Logic.{_⊎_, inl, inr, _↔_}
 use mathlib.Core.Bool.{Bool, true, false, _&&_, false≢true}
 use mathlib.Core.List.{List, map, List·Memᴰ}
 use native.Mathlib.Omega.{arith}
 use lib.Dec.{eqb, ltb}
-use borrow.Author.Tests.{ltb-true, ltb-false, lt-ltb, eqb-true, eqb-false, eq-eqb}
+use borrow.Author.Tests.{ltb-true, lt-ltb, eqb-true, eqb-false, eq-eqb}
 use lib.ListN.{length, getD, length-map}
 use Rattle.floats.specs.Lists.{count, filter}
 use Rattle.triangles.specs.declared.Decision.{Decision}
 use Rattle.triangles.specs.Decision.{overlaps, touches}
 use Rattle.layout.specs.Parts.{countOf, entryAt}
-use Rattle.listing.specs.Turns.{upTo}
-use Rattle.listing.specs.Pairs.{isTest, isTraining, decisionAt, decisions}
-use Rattle.listing.specs.Leaks.{tests, trainings, recordingPairs, tallyFor, isLeak, leakPairs, leakOf, leaks, isTouching, touchingPairs, touching}
-use Rattle.listing.specs.Demand.{Compared, SomePair, Leaking, OnlyTouching, InTableOrder, AllDecided, lineFor, noLeak, DemandTwo}
-use Rattle.listing.proofs.Turns.{below, reached, kept, passed, mapped, unmapped, in-each, of-each, Sorted, sorted-filter, sorted-map, sorted-each, sorted-upTo, sorted-at, map-at}
-use Rattle.listing.proofs.Tallied.{tally-overlapping, tally-touching, counted-one, one-counted, decision-in, decision-of, how-many, in-turn}
+use Rattle.listing.specs.Turns.{upTo, each, folded}
+use Rattle.listing.specs.Pairs.{isTest, isTraining, decisionAt, nearAt, trianglePairs, decisions}
+use Rattle.listing.specs.Leaks.{tests, trainings, recordingPairs, tallyFor, isLeak, leakPairs, leakOf, leaks, isTouching, touchingPairs, touching, allPairs, isTested, testedPairs, tested}
+use Rattle.listing.specs.Demand.{Compared, SomePair, Leaking, OnlyTouching, Tested, InTableOrder, AllDecided, lineFor, testedFor, noLeak, DemandTwo}
+use Rattle.listing.proofs.Turns.{below, reached, kept, passed, mapped, unmapped, in-each, of-each, Sorted, sorted-filter, sorted-map, sorted-each, sorted-upTo, sorted-at, sorted-once, map-at, map-same, filter-count, count-each}
+use Rattle.listing.proofs.Tallied.{count-map, tally-overlapping, tally-touching, tally-tested, counted-one, one-counted, pair-in, pair-of, decision-in, decision-of, how-many, in-turn}
 
 -- what is not none is some
 positive : (n : ℕ) → (n ≡ 0 → ⊥) → 0 < n
 positive zero h = absurd (h refl)
 positive (suc n) h = omega arith
+
+-- ---- table order of pairs
+pub not-before : (x y : ℕ × ℕ) → InTableOrder x y → x ≡ y → ⊥
+not-before x y (inl h) e = let z = ap (λ t. t .0) e in omega (arith, h, z)
+not-before x y (inr h) e = let z = ap (λ t. t .1) e in let g = h .1 in omega (arith, g, z)
+
+-- each of these with each of those, all in order
+pub sorted-product : (xs ys : List ℕ) → Sorted _<_ xs → Sorted _<_ ys → Sorted InTableOrder (each (λ i. map (λ j. (i, j)) ys) xs)
+sorted-product xs ys sx sy = sorted-each _<_ InTableOrder (λ i. map (λ j. (i, j)) ys) xs sx (λ i. sorted-map _<_ InTableOrder (λ j. (i, j)) ys (λ x y h. inr (refl, h)) sy) across
+  where
+    across : (x y : ℕ) → x < y → (p q : ℕ × ℕ) → List·Memᴰ p (map (λ j. (x, j)) ys) → List·Memᴰ q (map (λ j. (y, j)) ys) → InTableOrder p q
+    across x y h p q m n =
+        let r = unmapped (λ j. (x, j)) ys m in
+        let s = unmapped (λ j. (y, j)) ys n in
+        inl (subst (λ k. k < q .0) (sym (ap (λ t. t .0) (r .2))) (subst (λ k. x < k) (sym (ap (λ t. t .0) (s .2))) h))
 
 module _ (file : List ℕ) where
   -- ---- the pairs of recordings
@@ -44,35 +59,23 @@ module _ (file : List ℕ) where
   unfolding trainings
   sorted-trainings = sorted-filter _<_ trainingAt (upTo (countOf file)) (sorted-upTo (countOf file))
 
-  sorted-pairs : Sorted InTableOrder (recordingPairs file)
+  pub sorted-pairs : Sorted InTableOrder (recordingPairs file)
   unfolding recordingPairs
-  sorted-pairs = sorted-each _<_ InTableOrder with (tests file) sorted-tests (λ i. sorted-map _<_ InTableOrder (λ j. (i, j)) (trainings file) (λ x y h. inr (refl, h)) sorted-trainings) across
-    where
-      across : (x y : ℕ) → x < y → (p q : ℕ × ℕ) → List·Memᴰ p (with x) → List·Memᴰ q (with y) → InTableOrder p q
-      across x y h p q m n =
-          let r = unmapped (λ j. (x, j)) (trainings file) m in
-          let s = unmapped (λ j. (y, j)) (trainings file) n in
-          inl (subst (λ k. k < q .0) (sym (ap (λ t. t .0) (r .2))) (subst (λ k. x < k) (sym (ap (λ t. t .0) (s .2))) h))
+  sorted-pairs = sorted-product (tests file) (trainings file) sorted-tests sorted-trainings
 
   -- those of them that pass a test are in order too, so none is there twice
   module _ (p : ℕ × ℕ → Bool) where
     abbrev those : List (ℕ × ℕ)
     those = filter p (recordingPairs file)
 
-    in-order : (k l : ℕ) → k < l → l < length those → InTableOrder (getD those k (0, 0)) (getD those l (0, 0))
-    in-order k l h n = sorted-at InTableOrder those (0, 0) (sorted-filter InTableOrder p (recordingPairs file) sorted-pairs) k l h n
+    sorted-those : Sorted InTableOrder those
+    sorted-those = sorted-filter InTableOrder p (recordingPairs file) sorted-pairs
 
-    not-before : (x y : ℕ × ℕ) → InTableOrder x y → x ≡ y → ⊥
-    not-before x y (inl h) e = let z = ap (λ t. t .0) e in omega (arith, h, z)
-    not-before x y (inr h) e = let z = ap (λ t. t .1) e in let g = h .1 in omega (arith, g, z)
+    in-order : (k l : ℕ) → k < l → l < length those → InTableOrder (getD those k (0, 0)) (getD those l (0, 0))
+    in-order = sorted-at InTableOrder those (0, 0) sorted-those
 
     once : (k l : ℕ) → k < length those → l < length those → getD those k (0, 0) ≡ getD those l (0, 0) → k ≡ l
-    once k l m n e = go (ltb k l) refl (ltb l k) refl
-      where
-        go : (b : Bool) → ltb k l ≡ b → (c : Bool) → ltb l k ≡ c → k ≡ l
-        go true h c g = absurd (not-before (getD those k (0, 0)) (getD those l (0, 0)) (in-order k l (ltb-true k l h) n) e)
-        go false h true g = absurd (not-before (getD those l (0, 0)) (getD those k (0, 0)) (in-order l k (ltb-true l k g) m) (sym e))
-        go false h false g = omega (arith, ltb-false k l h, ltb-false l k g)
+    once = sorted-once InTableOrder those (0, 0) not-before sorted-those
 
   -- ---- which pairs there are
   in-tests : {i : ℕ} → List·Memᴰ i (tests file) → (i < countOf file) × (entryAt file i .set ≡ 1)
@@ -100,7 +103,7 @@ module _ (file : List ℕ) where
       let u = in-trainings (subst (λ q. List·Memᴰ (q .1) (trainings file)) (sym (s .2)) (s .1)) in
       record { recording = t .0; test = t .1; other = u .0; training = u .1 }
 
-  a-pair : (i j : ℕ) → Compared file i j → List·Memᴰ (i, j) (recordingPairs file)
+  pub a-pair : (i j : ℕ) → Compared file i j → List·Memᴰ (i, j) (recordingPairs file)
   unfolding recordingPairs
   a-pair i j c = in-each with (tests file) (a-test i (c .recording) (c .test)) (mapped (λ j. (i, j)) (trainings file) (a-training j (c .other) (c .training)))
 
@@ -195,6 +198,68 @@ module _ (file : List ℕ) where
   all-decided : (i j : ℕ) → AllDecided file i j
   all-decided i j = record { howMany = how-many file (entryAt file i) (entryAt file j); inTurn = in-turn file (entryAt file i) (entryAt file j) }
 
+  -- ---- the triangle pairs that are given to the triangle rules
+  abbrev near : ℕ × ℕ → ℕ × ℕ → Bool
+  near p q = nearAt file (entryAt file (p .0)) (entryAt file (p .1)) (q .0) (q .1)
+
+  abbrev of-two : ℕ × ℕ → List (ℕ × ℕ)
+  of-two p = trianglePairs (entryAt file (p .0)) (entryAt file (p .1))
+
+  abbrev in-two : ℕ × ℕ → List ((ℕ × ℕ) × (ℕ × ℕ))
+  in-two p = map (λ q. (p, q)) (of-two p)
+
+  tested-exactly : (i j a b : ℕ) → List·Memᴰ ((i, j), (a, b)) (testedPairs file) ↔ Tested file i j a b
+  unfolding testedPairs allPairs
+  tested-exactly i j a b = (to, from)
+    where
+      to : List·Memᴰ ((i, j), (a, b)) (testedPairs file) → Tested file i j a b
+      to m =
+          let r = passed (isTested file) (allPairs file) m in
+          let s = of-each in-two (recordingPairs file) (r .0) in
+          let t = unmapped (λ q. (s .0, q)) (of-two (s .0)) (s .2) in
+          let two = subst (λ p. List·Memᴰ p (recordingPairs file)) (sym (ap (λ x. x .0) (t .2))) (s .1) in
+          let inside = pair-of (entryAt file i) (entryAt file j) (subst (λ x. List·Memᴰ (x .1) (of-two (x .0))) (sym (t .2)) (t .1)) in
+          record { compared = in-pairs two; inTest = inside .0; inTraining = inside .1; near = r .1 }
+
+      from : Tested file i j a b → List·Memᴰ ((i, j), (a, b)) (testedPairs file)
+      from h =
+          kept (isTested file) (allPairs file)
+          (in-each in-two (recordingPairs file) (a-pair i j (h .compared)) (mapped (λ q. ((i, j), q)) (of-two (i, j)) (pair-in (entryAt file i) (entryAt file j) a b (h .inTest) (h .inTraining))))
+          (h .near)
+
+  -- by their recordings, and then by their triangles
+  abbrev InTurn : (ℕ × ℕ) × (ℕ × ℕ) → (ℕ × ℕ) × (ℕ × ℕ) → Type 0
+  InTurn x y = InTableOrder (x .0) (y .0) ⊎ ((x .0 ≡ y .0) × InTableOrder (x .1) (y .1))
+
+  sorted-tested : Sorted InTurn (testedPairs file)
+  unfolding testedPairs allPairs
+  sorted-tested = sorted-filter InTurn (isTested file) (allPairs file) (sorted-each InTableOrder InTurn in-two (recordingPairs file) sorted-pairs own across)
+    where
+      own : (p : ℕ × ℕ) → Sorted InTurn (in-two p)
+      own p = sorted-map InTableOrder InTurn (λ q. (p, q)) (of-two p) (λ x y h. inr (refl, h)) (unfold trianglePairs in sorted-product (upTo (entryAt file (p .0) .count)) (upTo (entryAt file (p .1) .count)) (sorted-upTo (entryAt file (p .0) .count)) (sorted-upTo (entryAt file (p .1) .count)))
+
+      across : (x y : ℕ × ℕ) → InTableOrder x y → (u v : (ℕ × ℕ) × (ℕ × ℕ)) → List·Memᴰ u (in-two x) → List·Memᴰ v (in-two y) → InTurn u v
+      across x y h u v m n =
+          let r = unmapped (λ q. (x, q)) (of-two x) m in
+          let s = unmapped (λ q. (y, q)) (of-two y) n in
+          inl (subst (λ p. InTableOrder p (v .0)) (sym (ap (λ t. t .0) (r .2))) (subst (λ p. InTableOrder x p) (sym (ap (λ t. t .0) (s .2))) h))
+
+  not-in-turn : (x y : (ℕ × ℕ) × (ℕ × ℕ)) → InTurn x y → x ≡ y → ⊥
+  not-in-turn x y (inl h) e = not-before (x .0) (y .0) h (ap (λ t. t .0) e)
+  not-in-turn x y (inr h) e = not-before (x .1) (y .1) (h .1) (ap (λ t. t .1) e)
+
+  tested-once : (k l : ℕ) → k < length (testedPairs file) → l < length (testedPairs file) → testedFor file k ≡ testedFor file l → k ≡ l
+  tested-once = sorted-once InTurn (testedPairs file) ((0, 0), (0, 0)) not-in-turn sorted-tested
+
+  -- counted over the walk, two recordings after two recordings
+  tested-of-two : (p : ℕ × ℕ) → count (isTested file) (in-two p) ≡ tallyFor file p .tested
+  unfolding tallyFor
+  tested-of-two p = count-map (isTested file) (λ q. (p, q)) (of-two p) ∙ sym (tally-tested file (entryAt file (p .0)) (entryAt file (p .1)))
+
+  pub tested-walked : tested file ≡ folded _+_ 0 (map (λ p. tallyFor file p .tested) (recordingPairs file))
+  unfolding tested testedPairs allPairs
+  tested-walked = filter-count (isTested file) (allPairs file) ∙ (count-each (isTested file) in-two (recordingPairs file) ∙ ap (folded _+_ 0) (map-same (λ p. count (isTested file) (in-two p)) (λ p. tallyFor file p .tested) tested-of-two (recordingPairs file)))
+
 pub demand2 : DemandTwo
 demand2 file = record {
   exactlyIf = λ i j. (leaking file i j, stands file i j);
@@ -209,5 +274,9 @@ demand2 file = record {
   touchingInOrder = unfold touchingPairs in in-order file (isTouching file);
   touchingOnce = unfold touchingPairs in once file (isTouching file);
   touchingCounted = unfold touching in refl;
+  testedExactlyIf = tested-exactly file;
+  testedOnce = tested-once file;
+  testedCounted = unfold tested in refl;
+  testedWalked = tested-walked file;
   noHeldBack = no-held-back file;
 }

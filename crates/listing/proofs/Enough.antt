@@ -45,7 +45,7 @@ filter-most : {A : Type 0} (p : A → Bool) (xs : List A) → length (filter p x
 filter-most p xs = let h = filter-two p (λ x. false) (λ x e f. false≢true f) xs in omega (arith, h)
 
 -- and so are those that are counted
-count-most : {A : Type 0} (p : A → Bool) (xs : List A) → count p xs ≤ length xs
+pub count-most : {A : Type 0} (p : A → Bool) (xs : List A) → count p xs ≤ length xs
 unfolding count
 count-most p [] = omega arith
 count-most p (x ∷ xs) = go (p x) (count-most p xs)

@@ -1,19 +1,27 @@
--- From an accepted file no triangle pair is refused: its triangles are whole centimetres in range, each with an area. Assumes nothing.
+-- From an accepted file no triangle pair is refused: its triangles are whole centimetres in range, each with an area. So its boxes share no point exactly if it is far, and then it is apart. Assumes nothing.
 use Prim.Native.Nat.{ℕ, _+_, _*_, _<_, _≤_}
-use mathlib.Core.Path.{_≡_, sym, refl, ap, ap₂, _∙_}
-use mathlib.Core.List.{List, _++_, map}
+use mathlib.Core.Path.{_≡_, sym, refl, ap, ap₂, subst, _∙_}
+use mathlib.Core.Logic.{⊎-elim}
+use mathlib.Core.List.{List, _++_, map, List·Memᴰ·append-cases}
 use native.Mathlib.Omega.{arith}
 use lib.Ieee.{binary64, ofInt}
+use Rattle.floats.specs.Finite.{finite}
+use Rattle.floats.proofs.Lists.{so, os, all-at}
+use Rattle.boxes.specs.Near.{Given}
+use Rattle.boxes.proofs.Pairs.{boxes-tell}
 use Rattle.triangles.specs.Decision.{decisionOf}
+use Rattle.triangles.proofs.Decided.{boxes-first}
 use Rattle.layout.specs.Bytes.{i32At}
 use Rattle.layout.specs.Parts.{Triangle, numbersOf, countOf, entryAt, triangleFrom}
 use Rattle.layout.specs.Layout.{Layout}
 use Rattle.layout.specs.Recordings.{partOf, f64At}
 use Rattle.layout.proofs.Inside.{parts-inside}
+use Rattle.centimetres.specs.Centimetres.{Centimetres, twelveValues}
+use Rattle.centimetres.proofs.Pair.{values, values-finite}
 use Rattle.centimetres.proofs.Never.{always-decided}
 use Rattle.centimetres.proofs.Passed.{in-good-files}
-use Rattle.listing.specs.Pairs.{placeIn, coordinatesAt, decisionAt}
-use Rattle.listing.specs.Demand.{DecidedOfParts, NoneRefused}
+use Rattle.listing.specs.Pairs.{placeIn, coordinatesAt, valuesAt, decisionAt, nearAt}
+use Rattle.listing.specs.Demand.{DecidedOfParts, NoneRefused, FarApart}
 use Rattle.listing.proofs.Turns.{map-append}
 
 module _ (file : List ℕ) (good : Layout file) where
@@ -38,10 +46,31 @@ module _ (file : List ℕ) (good : Layout file) where
   numbers i a h k =
       rw (first i a h k, number i a 4 h k (omega arith), number i a 8 h k (omega arith), number i a 12 h k (omega arith), number i a 16 h k (omega arith), number i a 20 h k (omega arith)) refl
 
+  -- the twelve values of a pair, in the parts and in the file
+  pub values-are : (i j a b : ℕ) → i < countOf file → j < countOf file → a < entryAt file i .count → b < entryAt file j .count → twelveValues (tri i a) (tri j b) ≡ valuesAt file (entryAt file i) (entryAt file j) a b
+  unfolding valuesAt
+  values-are i j a b hi hj ha hb = map-append (ofInt binary64) (numbersOf (tri i a)) (numbersOf (tri j b)) ∙ ap₂ _++_ (numbers i a hi ha) (numbers j b hj hb)
+
 pub decided-of-parts : DecidedOfParts
-decided-of-parts file good i j a b hi hj ha hb =
-    unfold decisionAt in sym (ap decisionOf (map-append (ofInt binary64) (numbersOf (tri file good i a)) (numbersOf (tri file good j b)) ∙ ap₂ _++_ (numbers file good i a hi ha) (numbers file good j b hj hb)))
+unfolding decisionAt
+decided-of-parts file good i j a b hi hj ha hb = sym (ap decisionOf (values-are file good i j a b hi hj ha hb))
 
 pub none-refused : NoneRefused
 none-refused file good i j a b hi hj ha hb k e =
     always-decided (tri file good i a) (tri file good j b) (in-good-files file i a good hi ha) (in-good-files file j b good hj hb) k (sym (decided-of-parts file good i j a b hi hj ha hb) ∙ e)
+
+-- ---- far pairs
+-- twelve values, each finite
+pub all-given : (u v : Triangle) → Centimetres u → Centimetres v → Given (twelveValues u v)
+all-given u v hu hv =
+    let zs = numbersOf u ++ numbersOf v in
+    let fine = values-finite zs (λ z m. ⊎-elim (hu .inRange z) (hv .inRange z) (List·Memᴰ·append-cases (numbersOf u) m)) in
+    record { twelve = refl; allFinite = λ x m. so (all-at finite (values zs) (os fine) m) }
+
+pub far-apart : FarApart
+unfolding decisionAt nearAt
+far-apart file good i j a b hi hj ha hb =
+    let l = valuesAt file (entryAt file i) (entryAt file j) a b in
+    let given = subst Given (values-are file good i j a b hi hj ha hb) (all-given (tri file good i a) (tri file good j b) (in-good-files file i a good hi ha) (in-good-files file j b good hj hb)) in
+    let tell = boxes-tell l given .far in
+    record { exactlyIf = tell; apart = λ e. boxes-first l .far (tell .0 e) }

@@ -12,7 +12,7 @@ use Rattle.text.specs.Room.{laid, WholeOrNothing}
 use Rattle.text.proofs.Room.{whole-or-nothing, put-front}
 use Rattle.layout.specs.Verdict.{verdict, good}
 use Rattle.layout.proofs.Returned.{number-range, is-good, has-layout, file-first, not-refused}
-use Rattle.listing.specs.Leaks.{leaks, touching}
+use Rattle.listing.specs.Leaks.{leaks, beside}
 use Rattle.listing.specs.Words.{listText, refusedLine}
 use Rattle.listing.specs.Listing.{ListAndRoom, noList, tooShort, listIn, listFrom, listOf, outputOf}
 use Rattle.listing.specs.Promise.{NoSecondList, ListDemand1, ListReturnedOne, Written, ListReturnedTwo, Outputs}
@@ -27,16 +27,16 @@ module _ (file room : List ℕ) where
   unfolding listOf
   by-file h = file-first ListAndRoom file (noList room) _ h
 
-  pub past-file : verdict file .number ≡ 0 → listOf file room ≡ listFrom (leaks file) (touching file) room
+  pub past-file : verdict file .number ≡ 0 → listOf file room ≡ listFrom (leaks file) (beside file) room
   unfolding listOf
   past-file z = not-refused file (noList room) _ z
 
   pub by-room : verdict file .number ≡ 0 → length room < length (listText file) → listOf file room ≡ noList room tooShort
-  unfolding listFrom listText
+  unfolding listFrom listText beside
   by-room z h = past-file z ∙ rw (lt-ltb (length room) (length (listText file)) h) refl
 
-  pub by-list : verdict file .number ≡ 0 → length (listText file) ≤ length room → listOf file room ≡ listIn room (listText file) (length (leaks file)) (touching file)
-  unfolding listFrom listText
+  pub by-list : verdict file .number ≡ 0 → length (listText file) ≤ length room → listOf file room ≡ listIn room (listText file) (length (leaks file)) (beside file)
+  unfolding listFrom listText beside
   by-list z h = past-file z ∙ rw (le-ltb (length room) (length (listText file)) h) refl
 
   data Kind : Type 0 where
@@ -62,7 +62,7 @@ module _ (file room : List ℕ) where
         answered = (λ z. absurd (h z), λ z. absurd (h (is-good file (z .0))));
         noPlace = λ z. absurd (no-kind (verdict file .number) (n .0) z);
         numbers = λ z. inr n;
-        zeros = λ z. (refl, refl, refl, refl);
+        zeros = λ z. (refl, refl, refl, refl, refl);
         sameLength = refl;
         rest = refl;
       }
@@ -78,7 +78,7 @@ module _ (file room : List ℕ) where
     answered = (λ e. absurd (omega (arith, e)), λ p. let g = p .1 in absurd (omega (arith, g, h)));
     noPlace = λ e. refl;
     numbers = λ e. inl refl;
-    zeros = λ e. (refl, refl, refl, refl);
+    zeros = λ e. (refl, refl, refl, refl, refl);
     sameLength = refl;
     rest = refl;
   }
@@ -86,7 +86,7 @@ module _ (file room : List ℕ) where
   stands : length (listText file) ≤ length room → WholeOrNothing room 0 (listText file) (laid room 0 (listText file)) (length (listText file))
   stands h = whole-or-nothing (put-front room (listText file) h)
 
-  an-answer : (z : verdict file .number ≡ 0) → length (listText file) ≤ length room → ListDemand1 file room (listIn room (listText file) (length (leaks file)) (touching file) .result) (laid room 0 (listText file))
+  an-answer : (z : verdict file .number ≡ 0) → length (listText file) ≤ length room → ListDemand1 file room (listIn room (listText file) (length (leaks file)) (beside file) .result) (laid room 0 (listText file))
   an-answer z h = record {
     fileFirst = λ n. absurd (n z);
     tooShort = (λ e. absurd (omega (arith, e)), λ p. let g = p .1 in absurd (omega (arith, g, h)));
@@ -116,7 +116,8 @@ module _ (file room : List ℕ) where
       go (byList z h) = rw (by-list z h) (record {
         length-is = refl;
         leaks-is = refl;
-        touching-is = refl;
+        touching-is = unfold beside in refl;
+        tested-is = unfold beside in refl;
         text = stands h .whole (omega (arith, h)) .0;
         demand = demand2 file;
       })

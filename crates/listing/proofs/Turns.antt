@@ -1,6 +1,6 @@
 -- What is in lists that are taken in turn, filtered and mapped, and in which order. Assumes nothing.
 use Prim.Native.Nat.{ℕ, zero, suc, _+_, _<_}
-use mathlib.Core.Path.{_≡_, refl, sym, ap, subst, _∙_}
+use mathlib.Core.Path.{_≡_, refl, sym, ap, ap₂, subst, _∙_}
 use mathlib.Core.Logic.{_⊎_, inl, inr}
 use mathlib.Core.Bool.{Bool, true, false, cond}
 use mathlib.Core.List.{List, [], _∷_, _++_, map, append-assoc, append-nil, List·Memᴰ, List·Memᴰ·head as here, List·Memᴰ·tail as there, Memᴰ·append-left as on-left, Memᴰ·append-right as on-right}
@@ -8,7 +8,8 @@ use native.Mathlib.Omega.{arith}
 use lib.Dec.{ltb}
 use borrow.Author.Tests.{ltb-true, ltb-false}
 use lib.ListN.{length, getD}
-use Rattle.floats.specs.Lists.{filter}
+use Rattle.floats.specs.Lists.{filter, count}
+use Rattle.floats.proofs.Lists.{count-append}
 use Rattle.listing.specs.Turns.{upTo, each, folded}
 
 -- ---- membership
@@ -112,6 +113,40 @@ pub each-one : {A B : Type 0} (f : A → List B) (x : A) → each f (x ∷ []) �
 unfolding each
 each-one f x = append-nil (f x)
 
+pub map-same : {A B : Type 0} (f g : A → B) → ((x : A) → f x ≡ g x) → (xs : List A) → map f xs ≡ map g xs
+map-same f g same [] = refl
+map-same f g same (x ∷ xs) = ap₂ _∷_ (same x) (map-same f g same xs)
+
+-- ---- how many
+pub filter-count : {A : Type 0} (p : A → Bool) (xs : List A) → length (filter p xs) ≡ count p xs
+unfolding filter count
+filter-count p [] = refl
+filter-count p (x ∷ xs) = go (p x) (filter-count p xs)
+  where
+    go : (b : Bool) → length (filter p xs) ≡ count p xs → length (cond b (x ∷ filter p xs) (filter p xs)) ≡ cond b (suc (count p xs)) (count p xs)
+    go true e = ap suc e
+    go false e = e
+
+-- a sum from n on
+pub sum-from : (n : ℕ) (ns : List ℕ) → folded _+_ n ns ≡ n + folded _+_ 0 ns
+unfolding folded
+sum-from n [] = omega arith
+sum-from n (m ∷ ns) = sum-from (n + m) ns ∙ (together (folded _+_ 0 ns) ∙ ap (λ k. n + k) (sym (sum-from (0 + m) ns)))
+  where
+    together : (k : ℕ) → n + m + k ≡ n + (0 + m + k)
+    together k = omega arith
+
+pub count-each : {A B : Type 0} (p : B → Bool) (f : A → List B) (xs : List A) → count p (each f xs) ≡ folded _+_ 0 (map (λ x. count p (f x)) xs)
+unfolding each count folded
+count-each p f [] = refl
+count-each p f (x ∷ xs) = count-append p (f x) (each f xs) ∙ (ap (λ n. count p (f x) + n) (count-each p f xs) ∙ (from-none (count p (f x)) (folded _+_ 0 rest) ∙ sym (sum-from (0 + count p (f x)) rest)))
+  where
+    rest : List ℕ
+    rest = map (λ y. count p (f y)) xs
+
+    from-none : (n k : ℕ) → n + k ≡ 0 + n + k
+    from-none n k = omega arith
+
 -- ---- by place
 pub member-at : {A : Type 0} (xs : List A) (d : A) (k : ℕ) → k < length xs → List·Memᴰ (getD xs k d) xs
 member-at [] d k h = absurd (omega (arith, h))
@@ -155,6 +190,15 @@ module _ {A : Type 0} (R : A → A → Type 0) where
   sorted-at (x ∷ xs) d s k zero h n = absurd (omega (arith, h))
   sorted-at (x ∷ xs) d s zero (suc l) h n = s .0 (getD xs l d) (member-at xs d l (omega (arith, n)))
   sorted-at (x ∷ xs) d s (suc k) (suc l) h n = sorted-at xs d (s .1) k l (omega (arith, h)) (omega (arith, n))
+
+-- where nothing stands before itself, none is there twice
+pub sorted-once : {A : Type 0} (R : A → A → Type 0) (xs : List A) (d : A) → ((x y : A) → R x y → x ≡ y → ⊥) → Sorted R xs → (k l : ℕ) → k < length xs → l < length xs → getD xs k d ≡ getD xs l d → k ≡ l
+sorted-once R xs d not-same s k l m n e = go (ltb k l) refl (ltb l k) refl
+  where
+    go : (b : Bool) → ltb k l ≡ b → (c : Bool) → ltb l k ≡ c → k ≡ l
+    go true h c g = absurd (not-same (getD xs k d) (getD xs l d) (sorted-at R xs d s k l (ltb-true k l h) n) e)
+    go false h true g = absurd (not-same (getD xs l d) (getD xs k d) (sorted-at R xs d s l k (ltb-true l k g) m) (sym e))
+    go false h false g = omega (arith, ltb-false k l h, ltb-false l k g)
 
 pub sorted-map : {A B : Type 0} (R : A → A → Type 0) (S : B → B → Type 0) (f : A → B) (xs : List A) → ((x y : A) → R x y → S (f x) (f y)) → Sorted R xs → Sorted S (map f xs)
 unfolding Sorted

@@ -1,19 +1,21 @@
--- Demand 2 of the leak list, in the words of 02, No. 1: which lines there are, in which order, what stands in them, and what the closing line counts, in facts about the file's recordings and triangles. Statements only.
+-- Demand 2 of the leak list, in the words of 02, No. 1 and No. 3: which lines there are, in which order, what stands in them, what the closing line counts, and how many triangle pairs are given to the triangle rules, in facts about the file's recordings and triangles. Statements only.
 use Prim.Native.Nat.{ℕ, _+_, _*_, _<_}
 use mathlib.Core.Path.{_≡_}
 use mathlib.Core.Logic.{_⊎_, _↔_}
-use mathlib.Core.Bool.{true}
-use mathlib.Core.List.{List, List·Memᴰ}
+use mathlib.Core.Bool.{true, false}
+use mathlib.Core.List.{List, map, List·Memᴰ}
 use lib.ListN.{length, getD}
 use Rattle.floats.specs.Lists.{count}
 use Rattle.triangles.specs.declared.Decision.the-variants.{Refused, Apart}
+use Rattle.boxes.specs.Near.{Far}
 use Rattle.triangles.specs.Decision.{overlaps, touches, decisionOf}
 use Rattle.centimetres.specs.Centimetres.{twelveValues}
 use Rattle.layout.specs.Recordings.{partOf}
 use Rattle.layout.specs.Parts.{countOf, entryAt, triangleFrom}
 use Rattle.layout.specs.Layout.{Layout}
-use Rattle.listing.specs.Pairs.{decisionAt, decisions}
-use Rattle.listing.specs.Leaks.{Leak, tallyFor, leakPairs, leakOf, leaks, touchingPairs, touching}
+use Rattle.listing.specs.Turns.{folded}
+use Rattle.listing.specs.Pairs.{valuesAt, decisionAt, nearAt, decisions}
+use Rattle.listing.specs.Leaks.{Leak, recordingPairs, tallyFor, leakPairs, leakOf, leaks, touchingPairs, touching, testedPairs, tested}
 
 -- the triangles a of recording i, as U, and b of recording j, as V, overlap; or touch
 abbrev pub Overlap : List ℕ → ℕ → ℕ → ℕ → ℕ → Type 0
@@ -44,6 +46,13 @@ pub record OnlyTouching (file : List ℕ) (i j : ℕ) : Type 0 where
   pub pair : SomePair file i j (Touch file i j)
   pub noOther : SomePair file i j (Overlap file i j) → ⊥
 
+-- the triangles a of recording i, a test recording, and b of recording j, a training recording, have boxes that share a point
+pub record Tested (file : List ℕ) (i j a b : ℕ) : Type 0 where
+  pub compared : Compared file i j
+  pub inTest : a < entryAt file i .count
+  pub inTraining : b < entryAt file j .count
+  pub near : nearAt file (entryAt file i) (entryAt file j) a b ≡ true
+
 -- table order: of test recordings, and of training recordings within a test recording
 abbrev pub InTableOrder : ℕ × ℕ → ℕ × ℕ → Type 0
 InTableOrder p q = (p .0 < q .0) ⊎ ((p .0 ≡ q .0) × (p .1 < q .1))
@@ -60,6 +69,10 @@ lineFor file k = getD (leakPairs file) k (0, 0)
 -- and of those that only touch
 abbrev pub touchingFor : List ℕ → ℕ → ℕ × ℕ
 touchingFor file k = getD (touchingPairs file) k (0, 0)
+
+-- and of the triangle pairs that are given to the triangle rules
+abbrev pub testedFor : List ℕ → ℕ → (ℕ × ℕ) × (ℕ × ℕ)
+testedFor file k = getD (testedPairs file) k ((0, 0), (0, 0))
 
 abbrev pub noLeak : Leak
 noLeak = record { test = 0; train = 0; pairs = 0 }
@@ -81,6 +94,12 @@ pub record ListDemand2 (file : List ℕ) : Type 0 where
   pub touchingInOrder : (k l : ℕ) → k < l → l < length (touchingPairs file) → InTableOrder (touchingFor file k) (touchingFor file l)
   pub touchingOnce : (k l : ℕ) → k < length (touchingPairs file) → l < length (touchingPairs file) → touchingFor file k ≡ touchingFor file l → k ≡ l
   pub touchingCounted : touching file ≡ length (touchingPairs file)
+  -- the number of pairs given to the triangle rules is how many triangle pairs of a test and a training recording have boxes that share a point: the pairs counted are those and no other, and each is counted once
+  pub testedExactlyIf : (i j a b : ℕ) → List·Memᴰ ((i, j), (a, b)) (testedPairs file) ↔ Tested file i j a b
+  pub testedOnce : (k l : ℕ) → k < length (testedPairs file) → l < length (testedPairs file) → testedFor file k ≡ testedFor file l → k ≡ l
+  pub testedCounted : tested file ≡ length (testedPairs file)
+  -- and it is what is counted over the walk, pair of recordings by pair of recordings
+  pub testedWalked : tested file ≡ folded _+_ 0 (map (λ p. tallyFor file p .tested) (recordingPairs file))
   -- a held back recording has no part in any line, nor in what the closing line counts
   pub noHeldBack : (i j k : ℕ) → List·Memᴰ (i, j) (leakPairs file) ⊎ List·Memᴰ (i, j) (touchingPairs file) → entryAt file k .set ≡ 2 → (i ≡ k → ⊥) × (j ≡ k → ⊥)
 
@@ -108,3 +127,11 @@ DecidedOfParts = (file : List ℕ) → Layout file → (i j a b : ℕ) → i < c
 -- from an accepted file no triangle pair is refused
 abbrev pub NoneRefused : Type 0
 NoneRefused = (file : List ℕ) → Layout file → (i j a b : ℕ) → i < countOf file → j < countOf file → a < entryAt file i .count → b < entryAt file j .count → (k : ℕ) → decisionAt file (entryAt file i) (entryAt file j) a b ≡ Refused k → ⊥
+
+-- of two triangles of an accepted file: their boxes share no point exactly if the pair is far, and then it is apart and adds nothing to any count
+pub record FarAway (file : List ℕ) (i j a b : ℕ) : Type 0 where
+  pub exactlyIf : (nearAt file (entryAt file i) (entryAt file j) a b ≡ false) ↔ Far (valuesAt file (entryAt file i) (entryAt file j) a b)
+  pub apart : nearAt file (entryAt file i) (entryAt file j) a b ≡ false → decisionAt file (entryAt file i) (entryAt file j) a b ≡ Apart
+
+abbrev pub FarApart : Type 0
+FarApart = (file : List ℕ) → Layout file → (i j a b : ℕ) → i < countOf file → j < countOf file → a < entryAt file i .count → b < entryAt file j .count → FarAway file i j a b

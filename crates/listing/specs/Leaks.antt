@@ -1,4 +1,4 @@
--- 01, "The leak list", with 02, No. 1: which pairs of recordings have a line, in which order, and what the line names; and which only touch. Definitions only.
+-- 01, "The leak list", with 02, No. 1 and No. 3: which pairs of recordings have a line, in which order, and what the line names; which only touch; and which triangle pairs are given to the triangle rules. Definitions only.
 use Prim.Native.Nat.{ℕ}
 use mathlib.Core.Bool.{Bool}
 use mathlib.Core.List.{List, map}
@@ -7,7 +7,7 @@ use Rattle.floats.specs.Lists.{filter}
 use Rattle.layout.specs.Parts.{countOf, entryAt}
 use Rattle.listing.specs.Turns.{upTo, each}
 use Rattle.listing.specs.declared.Tally.{Tally}
-use Rattle.listing.specs.Pairs.{isTest, isTraining, tallyOf, leak, onlyTouch}
+use Rattle.listing.specs.Pairs.{isTest, isTraining, nearAt, trianglePairs, tallyOf, leak, onlyTouch}
 
 -- a leak line: the ids of the test and the training recording, and how many of their triangle pairs overlap
 pub record Leak : Type 0 where
@@ -63,3 +63,29 @@ module _ (file : List ℕ) where
   unfoldable pub touching : ℕ
   unfolding touchingPairs
   touching = length touchingPairs
+
+  -- the triangle pairs of all test and training recordings: the two recordings, and a triangle of each
+  unfoldable pub allPairs : List ((ℕ × ℕ) × (ℕ × ℕ))
+  unfolding recordingPairs trianglePairs entryAt each
+  allPairs = each (λ p. map (λ q. (p, q)) (trianglePairs (entryAt file (p .0)) (entryAt file (p .1)))) recordingPairs
+
+  -- those whose boxes share a point are given to the triangle rules, and counted
+  abbrev pub isTested : (ℕ × ℕ) × (ℕ × ℕ) → Bool
+  isTested p = nearAt file (entryAt file (p .0 .0)) (entryAt file (p .0 .1)) (p .1 .0) (p .1 .1)
+
+  unfoldable pub testedPairs : List ((ℕ × ℕ) × (ℕ × ℕ))
+  unfolding allPairs nearAt entryAt filter
+  testedPairs = filter isTested allPairs
+
+  unfoldable pub tested : ℕ
+  unfolding testedPairs
+  tested = length testedPairs
+
+-- what is counted beside the leaks
+pub record Beside : Type 0 where
+  pub touching : ℕ
+  pub tested : ℕ
+
+unfoldable pub beside : List ℕ → Beside
+unfolding touching tested
+beside file = record { touching = touching file; tested = tested file }

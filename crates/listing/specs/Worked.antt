@@ -1,4 +1,4 @@
--- Lists worked by hand: 01's example with 02's closing line, rooms around its length, files in which a wrong order, a wrong count, a wrong set or U for V would show, and files of recordings that share an edge, a part of one, or a corner. Definitions and statements.
+-- Lists worked by hand: 01's example with 02's closing line, rooms around its length, files in which a wrong order, a wrong count, a wrong set or U for V would show, files of recordings that share an edge, a part of one, or a corner, and files of far pairs. Definitions and statements.
 use Prim.Native.Nat.{ℕ, _+_}
 use mathlib.Core.Path.{_≡_}
 use mathlib.Core.List.{List, [], _∷_, _++_}
@@ -6,7 +6,7 @@ use lib.ListN.{replicate}
 use Rattle.layout.specs.Worked.{small, six, v, u, seven, nine, changed, trailer, pairOf, example}
 use Rattle.listing.specs.Listing.{listOf, outputOf}
 
--- a file and a room of so many points; number, place, length, leaks and touching of the result, the room's front afterwards, behind which `points` points are left; what the program writes
+-- a file and a room of so many points; number, place, length, leaks, touching and tested of the result, the room's front afterwards, behind which `points` points are left; what the program writes
 pub record Case : Type 0 where
   pub file : List ℕ
   pub room : ℕ
@@ -15,6 +15,7 @@ pub record Case : Type 0 where
   pub length : ℕ
   pub leaks : ℕ
   pub touching : ℕ
+  pub tested : ℕ
   pub front : List ℕ
   pub points : ℕ
   pub output : List ℕ
@@ -28,6 +29,7 @@ pub record Shown (c : Case) : Type 0 where
   pub length : listOf (c .file) (pointsOf (c .room)) .result .length ≡ c .length
   pub leaks : listOf (c .file) (pointsOf (c .room)) .result .leaks ≡ c .leaks
   pub touching : listOf (c .file) (pointsOf (c .room)) .result .touching ≡ c .touching
+  pub tested : listOf (c .file) (pointsOf (c .room)) .result .tested ≡ c .tested
   pub room : listOf (c .file) (pointsOf (c .room)) .room ≡ c .front ++ pointsOf (c .points)
   pub output : outputOf (c .file) ≡ c .output
 
@@ -131,6 +133,34 @@ vFar = six (small 20) (small 20) (small 21) (small 20) (small 20) (small 21)
 abbrev pub seconds : List ℕ
 seconds = uE ++ (u ++ (vFar ++ (v ++ (uTurned ++ (changed 9 0 2 0 1 0 ++ (changed 7 48 2 0 0 0 ++ (changed 4 96 1 0 1 0 ++ trailer 120 3 168)))))))
 
+-- U (327628,2),(−335623,719289),(−969092,2) and V (−778994,−314945),(−940499,−380241),(0,0): every y of V is below every y of U, and rounding gives them a ring and an area beyond V's tip
+abbrev pub uBeyond : List ℕ
+uBeyond = six (204 ∷ 255 ∷ 4 ∷ 0 ∷ []) (2 ∷ 0 ∷ 0 ∷ 0 ∷ []) (249 ∷ 224 ∷ 250 ∷ 255 ∷ []) (185 ∷ 249 ∷ 10 ∷ 0 ∷ []) (124 ∷ 54 ∷ 241 ∷ 255 ∷ []) (2 ∷ 0 ∷ 0 ∷ 0 ∷ [])
+
+abbrev pub vBeyond : List ℕ
+vBeyond = six (14 ∷ 29 ∷ 244 ∷ 255 ∷ []) (191 ∷ 49 ∷ 251 ∷ 255 ∷ []) (45 ∷ 166 ∷ 241 ∷ 255 ∷ []) (175 ∷ 50 ∷ 250 ∷ 255 ∷ []) (0 ∷ 0 ∷ 0 ∷ 0 ∷ []) (0 ∷ 0 ∷ 0 ∷ 0 ∷ [])
+
+-- U (4,591250),(1,−164391),(500204,−582337) and V (0,0),(−933757,−541494),(−973496,−564539): every x of V is below every x of U, and rounding gives them a ring without an area
+abbrev pub uBeside : List ℕ
+uBeside = six (4 ∷ 0 ∷ 0 ∷ 0 ∷ []) (146 ∷ 5 ∷ 9 ∷ 0 ∷ []) (1 ∷ 0 ∷ 0 ∷ 0 ∷ []) (217 ∷ 125 ∷ 253 ∷ 255 ∷ []) (236 ∷ 161 ∷ 7 ∷ 0 ∷ []) (63 ∷ 29 ∷ 247 ∷ 255 ∷ [])
+
+abbrev pub vNeedle : List ℕ
+vNeedle = six (0 ∷ 0 ∷ 0 ∷ 0 ∷ []) (0 ∷ 0 ∷ 0 ∷ 0 ∷ []) (131 ∷ 192 ∷ 241 ∷ 255 ∷ []) (202 ∷ 188 ∷ 247 ∷ 255 ∷ []) (72 ∷ 37 ∷ 241 ∷ 255 ∷ []) (197 ∷ 98 ∷ 247 ∷ 255 ∷ [])
+
+-- (4,4),(8,4),(8,8), whose box has the corner (4,4) with V's, and (5,0),(9,0),(9,4), whose box is a centimetre from it
+abbrev pub uAtCorner : List ℕ
+uAtCorner = six (small 4) (small 4) (small 8) (small 4) (small 8) (small 8)
+
+abbrev pub uAside : List ℕ
+uAside = six (small 5) (small 0) (small 9) (small 0) (small 9) (small 4)
+
+-- test 9 with (5,0),(9,0),(9,4) and (4,4),(8,4),(8,8), training 7 with V and a far V, held back 5 with V, test 4 with U of D, training 3 with V: near are the second of 9 with both V, and U of D with both
+abbrev pub nearAndFar : List ℕ
+nearAndFar =
+    uAside ++ (uAtCorner ++ (v ++ (vFar ++ (v ++ (u ++ (v
+    ++ (changed 9 0 2 0 1 0 ++ (changed 7 48 2 0 0 0 ++ (changed 5 96 1 0 2 0 ++ (changed 4 120 1 0 1 0 ++ (changed 3 144 1 0 0 0
+    ++ trailer 168 5 240)))))))))))
+
 -- tests 1 and 2 with one U each, and trainings 3 to 7 with V of D each: 264 bytes
 abbrev pub ten : List ℕ → List ℕ
 ten t =
@@ -154,11 +184,11 @@ abbrev pub tooMany : List ℕ
 tooMany = v ++ (u ++ (seven ++ (nine ++ trailer 48 65 84)))
 
 -- ---- what comes of them
-abbrev pub listed : List ℕ → ℕ → ℕ → ℕ → ℕ → List ℕ → ℕ → Case
-listed file room length leaks touching text points = record { file = file; room = room; number = 0; place = 0; length = length; leaks = leaks; touching = touching; front = text; points = points; output = text }
+abbrev pub listed : List ℕ → ℕ → ℕ → ℕ → ℕ → ℕ → List ℕ → ℕ → Case
+listed file room length leaks touching tested text points = record { file = file; room = room; number = 0; place = 0; length = length; leaks = leaks; touching = touching; tested = tested; front = text; points = points; output = text }
 
 abbrev pub notListed : List ℕ → ℕ → ℕ → ℕ → List ℕ → Case
-notListed file room number place output = record { file = file; room = room; number = number; place = place; length = 0; leaks = 0; touching = 0; front = []; points = room; output = output }
+notListed file room number place output = record { file = file; room = room; number = number; place = place; length = 0; leaks = 0; touching = 0; tested = 0; front = []; points = room; output = output }
 
 -- the list with one line, of test 9 and training 7, and that of none, with so many that only touch
 abbrev pub oneLine : List ℕ
@@ -167,42 +197,61 @@ oneLine = first 1 ++ (line 9 7 1 ++ last 0)
 abbrev pub noLine : ℕ → List ℕ
 noLine t = first 0 ++ last t
 
-abbrev pub cases : List Case
-cases =
+abbrev pub rooms : List Case
+rooms =
     -- 01's example: in a room that is longer, in one of its length, in one that is a byte shorter, and in one that its first two lines would fit
-    listed example 51 42 1 0 oneLine 9
-    ∷ listed example 42 42 1 0 oneLine 0
+    listed example 51 42 1 0 1 oneLine 9
+    ∷ listed example 42 42 1 0 1 oneLine 0
     ∷ notListed example 41 7 0 oneLine
     ∷ notListed example 31 7 0 oneLine
     -- no recordings
-    ∷ listed (trailer 0 0 12) 19 19 0 0 (noLine 0) 0
+    ∷ listed (trailer 0 0 12) 19 19 0 0 0 (noLine 0) 0
     ∷ notListed (trailer 0 0 12) 18 7 0 (noLine 0)
     -- table order, held back left out, several pairs, recordings that only touch, one of them in two triangle pairs
-    ∷ listed mixed 66 65 2 2 (first 2 ++ (line 9 7 1 ++ (line 9 3 2 ++ last 2))) 1
+    ∷ listed mixed 66 65 2 2 6 (first 2 ++ (line 9 7 1 ++ (line 9 3 2 ++ last 2))) 1
     -- a part of an edge, a corner
-    ∷ listed (pairOf v uPart seven nine) 19 19 0 1 (noLine 1) 0
-    ∷ listed (pairOf v uCorner seven nine) 19 19 0 1 (noLine 1) 0
+    ∷ listed (pairOf v uPart seven nine) 19 19 0 1 1 (noLine 1) 0
+    ∷ listed (pairOf v uCorner seven nine) 19 19 0 1 1 (noLine 1) 0
     -- U and V not exchanged
-    ∷ listed oneWay 19 19 0 0 (noLine 0) 0
-    ∷ listed otherWay 19 19 0 1 (noLine 1) 0
+    ∷ listed oneWay 19 19 0 0 1 (noLine 0) 0
+    ∷ listed otherWay 19 19 0 1 1 (noLine 1) 0
     -- one pair touches and one overlaps: a line, and not among those that only touch
-    ∷ listed (bothKinds uF u) 42 42 1 0 oneLine 0
-    ∷ listed (bothKinds u uF) 42 42 1 0 oneLine 0
+    ∷ listed (bothKinds uF u) 42 42 1 0 2 oneLine 0
+    ∷ listed (bothKinds u uF) 42 42 1 0 2 oneLine 0
     -- one test recording overlaps a training recording and touches two others
-    ∷ listed oneAndTwo 42 42 1 2 (first 1 ++ (line 9 7 1 ++ last 2)) 0
+    ∷ listed oneAndTwo 42 42 1 2 3 (first 1 ++ (line 9 7 1 ++ last 2)) 0
     -- by the computed area, and by the computed ring
-    ∷ listed (pairOf vRounded uRounded seven nine) 42 42 1 0 oneLine 0
-    ∷ listed (pairOf vTied uTied seven nine) 19 19 0 0 (noLine 0) 0
+    ∷ listed (pairOf vRounded uRounded seven nine) 42 42 1 0 1 oneLine 0
+    ∷ listed (pairOf vTied uTied seven nine) 19 19 0 0 1 (noLine 0) 0
+    ∷ []
+
+abbrev pub counts : List Case
+counts =
     -- numbers of several digits
-    ∷ listed largeIds 52 52 1 0 (first 1 ++ (lineWith (52 ∷ 50 ∷ 57 ∷ 52 ∷ 57 ∷ 54 ∷ 55 ∷ 50 ∷ 57 ∷ 53 ∷ []) (49 ∷ 48 ∷ []) (49 ∷ []) ++ last 0)) 0
-    ∷ listed twelve 43 43 1 0 (first 1 ++ (lineWith (57 ∷ []) (55 ∷ []) (49 ∷ 50 ∷ []) ++ last 0)) 0
+    listed largeIds 52 52 1 0 1 (first 1 ++ (lineWith (52 ∷ 50 ∷ 57 ∷ 52 ∷ 57 ∷ 54 ∷ 55 ∷ 50 ∷ 57 ∷ 53 ∷ []) (49 ∷ 48 ∷ []) (49 ∷ []) ++ last 0)) 0
+    ∷ listed twelve 43 43 1 0 12 (first 1 ++ (lineWith (57 ∷ []) (55 ∷ []) (49 ∷ 50 ∷ []) ++ last 0)) 0
     -- of several triangles the second with the second, and a tie that turns on the order of U's vertices
-    ∷ listed seconds 42 42 1 0 oneLine 0
+    ∷ listed seconds 42 42 1 0 2 oneLine 0
     -- ten lines, and ten that only touch
-    ∷ listed (ten u) 250 250 10 0 (firstTen ++ (fiveLines 1 ++ (fiveLines 2 ++ last 0))) 0
-    ∷ listed (ten uF) 20 20 0 10 (first 0 ++ lastWith (49 ∷ 48 ∷ [])) 0
+    ∷ listed (ten u) 250 250 10 0 10 (firstTen ++ (fiveLines 1 ++ (fiveLines 2 ++ last 0))) 0
+    ∷ listed (ten uF) 20 20 0 10 10 (first 0 ++ lastWith (49 ∷ 48 ∷ [])) 0
     -- a refused file, before the room is looked at
     ∷ notListed tooMany 51 13 72 refused13at72
     ∷ notListed tooMany 0 13 72 refused13at72
     ∷ notListed [] 51 11 0 refused11at0
     ∷ []
+
+abbrev pub boxes : List Case
+boxes =
+    -- boxes that share no point, whatever rounding says; a corner of boxes, a centimetre between them; each pair whose boxes share a point counted, also where it leaks no more
+    listed (pairOf vBeyond uBeyond seven nine) 19 19 0 0 0 (noLine 0) 0
+    ∷ listed (pairOf vNeedle uBeside seven nine) 19 19 0 0 0 (noLine 0) 0
+    ∷ listed (pairOf v uAtCorner seven nine) 19 19 0 0 1 (noLine 0) 0
+    ∷ listed (pairOf v uAside seven nine) 19 19 0 0 0 (noLine 0) 0
+    ∷ listed nearAndFar 65 65 2 0 4 (first 2 ++ (line 4 7 1 ++ (line 4 3 1 ++ last 0))) 0
+    ∷ notListed nearAndFar 64 7 0 (first 2 ++ (line 4 7 1 ++ (line 4 3 1 ++ last 0)))
+    ∷ []
+
+-- all of them
+abbrev pub cases : List Case
+cases = rooms ++ (counts ++ boxes)

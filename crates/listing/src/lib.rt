@@ -1,19 +1,21 @@
 // The leak list: its rules, the laws that hold of them, what is counted of two recordings and what is answered.
 
-// What is counted of the triangle pairs of a test and a training recording: how many overlap, and how many touch.
+// What is counted of the triangle pairs of a test and a training recording: how many overlap, how many touch, and how many were given to the triangle rules.
 pub struct Tally {
     pub overlapping: u32,
     pub touching: u32,
+    pub tested: u32,
 }
 
-// What is counted of a file: how many leaks there are, and how many pairs of recordings only touch.
+// What is counted of a file: how many leaks there are, how many pairs of recordings only touch, and how many triangle pairs were given to the triangle rules.
 pub struct Counts {
     pub leaks: u32,
     pub touching: u32,
+    pub tested: u32,
 }
 
-// What is said of a list: number 0 and place 0, the list's length in bytes, how many leaks it has and how many pairs of recordings only touch; or a
-// refusal's number and place with zeros.
+// What is said of a list: number 0 and place 0, the list's length in bytes, how many leaks it has, how many pairs of recordings only touch, and how many
+// triangle pairs were given to the triangle rules; or a refusal's number and place with zeros.
 #[repr(C)]
 pub struct Listed {
     pub number: u32,
@@ -21,4 +23,5 @@ pub struct Listed {
     pub length: usize,
     pub leaks: u32,
     pub touching: u32,
+    pub tested: u32,
 }

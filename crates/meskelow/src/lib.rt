@@ -52,7 +52,7 @@ pub extern "C" fn meskelow_write(
     filer::write(ids, counts, sets, numbers, room)
 }
 
-// The leak list of a file's bytes: its length, the number of its leaks and that of the pairs of recordings that only touch, with the list at the front of the room, or a refusal's number and place with zeros, with the room as it was.
+// The leak list of a file's bytes: its length, the number of its leaks, that of the pairs of recordings that only touch and that of the triangle pairs given to the triangle rules, with the list at the front of the room, or a refusal's number and place with zeros, with the room as it was.
 #[no_mangle]
 pub extern "C" fn meskelow_leaks(file: &[u8], room: &mut [u8]) -> listing::Listed
     ensures { λ r. ⌜ ListPromise (now (file .entry)) (now (room .entry)) r (now (room .exit)) ⌝ }

@@ -1,4 +1,4 @@
--- An answer that keeps the promise, in a room of noughts, gives the definition's decision; so do two shapes that were made ready. Assumes nothing.
+-- An answer that keeps the promise, in a room of noughts, gives the definition's decision, where the pair is not far; where it is, that is apart. Two shapes that were made ready give what the triangle rules decide. Assumes nothing.
 use mathlib.Core.Path.{_≡_, refl, sym, ap, _∙_}
 use mathlib.Core.Bool.{Bool, true, false, cond}
 use mathlib.Core.List.{List}
@@ -14,28 +14,37 @@ use Rattle.triangles.specs.declared.Decision.the-variants.{Apart}
 use Rattle.triangles.specs.Answers.{refusal}
 use Rattle.triangles.specs.Promise.{PairPromise}
 use Rattle.triangles.specs.declared.Said.{Said}
-use Rattle.triangles.specs.Decision.{enough, decided, decisionOf, said, Decided, SaidOf}
-use Rattle.triangles.proofs.Decided.{decided-as}
-use Rattle.front.specs.Front.{beyondBy}
+use Rattle.triangles.specs.Decision.{enough, decided, byRules, said, Decided, SaidOf}
+use Rattle.triangles.proofs.Decided.{boxes-first, decided-as}
+use Rattle.front.specs.Front.{farBy, beyondBy}
+use Rattle.front.proofs.Boxes.{is-far, not-far}
 use Rattle.shapes.specs.declared.Shape.{Shape}
 use Rattle.shapes.specs.Shapes.{Made, first, second, third, sideA, sideB, twelve}
-use Rattle.routine.specs.Code.{Leaves, settledBy, decisionBy, DecidedOfMade}
+use Rattle.routine.specs.Code.{Leaves, settledBy, rulesBy, RulesOfMade}
 use Rattle.routine.proofs.Entry.{beyond-kept}
 use Rattle.routine.proofs.Kept.{settled-keeps}
 use Rattle.routine.proofs.Shapes.{shapes-give}
 
-pub decision-is : (l : List Float) {a : Answer} {after : List Float} {r : Decision} → PairPromise l enough a after → r ≡ decided a → Decided l r
-unfolding decisionOf
-decision-is l h e = decided-as l (e ∙ ap decided (h .result-is))
+ruled : (l : List Float) {a : Answer} {after : List Float} {r : Decision} → PairPromise l enough a after → r ≡ decided a → r ≡ byRules l
+unfolding byRules
+ruled l h e = e ∙ ap decided (h .result-is)
+
+-- ---- of a list of values, by the code's test for far pairs
+module _ (l : List Float) {b : Bool} (hb : b ≡ farBy l) where
+  pub decision-far : b ≡ true → Decided l Apart
+  decision-far h = decided-as l (sym (boxes-first l .far (is-far l .0 (sym hb ∙ h))))
+
+  pub decision-is : b ≡ false → {a : Answer} {after : List Float} {r : Decision} → PairPromise l enough a after → r ≡ decided a → Decided l r
+  decision-is h p e = decided-as l (ruled l p e ∙ sym (boxes-first l .near (not-far l (sym hb ∙ h))))
 
 -- in numbers
 pub said-is : (l : List Float) {d : Decision} {r : Said} → Decided l d → r ≡ said d → SaidOf l r
 said-is l h e = record { result-is = e ∙ ap said (h .result-is) }
 
 -- number 0 and no corners
-apart-is : (l : List Float) {after : List Float} → PairPromise l enough (refusal 0) after → Decided l Apart
+apart-is : (l : List Float) {after : List Float} → PairPromise l enough (refusal 0) after → Apart ≡ byRules l
 unfolding decided
-apart-is l h = decision-is l h refl
+apart-is l h = ruled l h refl
 
 -- ---- of two shapes, as the code comes to it
 module _ (u v : Shape) where
@@ -52,23 +61,23 @@ module _ (u v : Shape) where
     beyond-is : isBeyond ≡ b
     beyond-is = sym (hb ∙ rw (hp, hq, hr) refl)
 
-    pub decides-apart : b ≡ true → Apart ≡ decisionBy u v
-    unfolding decisionBy
+    pub decides-apart : b ≡ true → Apart ≡ rulesBy u v
+    unfolding rulesBy
     decides-apart h = taken rest (beyond-is ∙ h) refl
 
-    pub decides-by : {a : Answer} {after : List Float} {result : Decision} → b ≡ false → Leaves (settledBy (twelve u v) enough (v .cross) (u .cross) p q r) a after → result ≡ decided a → result ≡ decisionBy u v
-    unfolding decisionBy
+    pub decides-by : {a : Answer} {after : List Float} {result : Decision} → b ≡ false → Leaves (settledBy (twelve u v) enough (v .cross) (u .cross) p q r) a after → result ≡ decided a → result ≡ rulesBy u v
+    unfolding rulesBy
     decides-by h l e = left Apart (beyond-is ∙ h) (e ∙ (ap decided (l .result-is) ∙ rw (hp, hq, hr) refl))
 
   -- ---- and of two that were made ready
   module _ (made : Made u × Made v) where
-    made-decided : Decided (twelve u v) (decisionBy u v)
-    unfolding decisionBy
-    made-decided = go isBeyond refl
+    made-ruled : rulesBy u v ≡ byRules (twelve u v)
+    unfolding rulesBy
+    made-ruled = go isBeyond refl
       where
-        go : (b : Bool) → isBeyond ≡ b → Decided (twelve u v) (cond b Apart rest)
+        go : (b : Bool) → isBeyond ≡ b → cond b Apart rest ≡ byRules (twelve u v)
         go true h = apart-is (twelve u v) (beyond-kept (twelve u v) _ _ _ _ _ refl (shapes-give u v made refl refl refl) enough (omega arith) refl h)
-        go false h = decision-is (twelve u v) (settled-keeps (twelve u v) enough _ _ _ _ _ refl (omega arith) (shapes-give u v made refl refl refl)) refl
+        go false h = ruled (twelve u v) (settled-keeps (twelve u v) enough _ _ _ _ _ refl (omega arith) (shapes-give u v made refl refl refl)) refl
 
-pub decided-of-made : DecidedOfMade
-decided-of-made = made-decided
+pub rules-of-made : RulesOfMade
+rules-of-made = made-ruled

@@ -26,7 +26,7 @@ use Rattle.triangles.specs.declared.Answer.{Answer}
 use Rattle.triangles.specs.declared.Decision.{Decision}
 use Rattle.triangles.specs.declared.Decision.the-variants.{Apart}
 use Rattle.triangles.specs.Answers.{refusal, written}
-use Rattle.triangles.specs.Decision.{enough, decided, Decided}
+use Rattle.triangles.specs.Decision.{enough, decided, byRules}
 use Rattle.front.specs.Front.{beyondBy, numberBy}
 use Rattle.shapes.specs.declared.Shape.{Shape}
 use Rattle.shapes.specs.Shapes.{Made, first, second, third, sideA, sideB, twelve}
@@ -136,15 +136,15 @@ orderedBy l room p q r =
 unfoldable pub settledBy : List Float → List Float → Float → Float → Params → Params → Params → Outcome
 settledBy l room d e p q r = let k = numberBy l d e p q r in cond (eqb k 0) (orderedBy l room p q r) (outcomeRefused k room)
 
--- ---- of two triangles made ready, whatever their eleven numbers are: the sides and the crosses are taken as they stand
-unfoldable pub decisionBy : Shape → Shape → Decision
-decisionBy u v =
+-- ---- by the triangle rules alone, of two triangles made ready, whatever their eleven numbers are: the sides and the crosses are taken as they stand
+unfoldable pub rulesBy : Shape → Shape → Decision
+rulesBy u v =
     let by : Position → Params = paramsBy (v .cross) (first v) (sideA v) (sideB v) in
     let p = by (first u) in
     let q = by (second u) in
     let r = by (third u) in
     cond (beyondBy (v .cross) (u .cross) p q r) Apart (decided (settledBy (twelve u v) enough (v .cross) (u .cross) p q r .answer))
 
--- where each was made ready from its own vertices, it is the decision of their twelve values
-abbrev pub DecidedOfMade : Type 0
-DecidedOfMade = (u v : Shape) → Made u × Made v → Decided (twelve u v) (decisionBy u v)
+-- where each was made ready from its own vertices, it is what the triangle rules decide of their twelve values
+abbrev pub RulesOfMade : Type 0
+RulesOfMade = (u v : Shape) → Made u × Made v → rulesBy u v ≡ byRules (twelve u v)

@@ -8,7 +8,7 @@ ghost use Rattle.walk.specs.Code.{flagsAndRing};
 ghost use Rattle.triangles.specs.Answers.{refusal, written};
 ghost use Rattle.triangles.specs.Promise.{PairPromise};
 ghost use Rattle.triangles.specs.Decision.{Decided, SaidOf};
-ghost use Rattle.routine.specs.Code.{Leaves, placedAs, orderedBy, settledBy, decisionBy};
+ghost use Rattle.routine.specs.Code.{Leaves, placedAs, orderedBy, settledBy, rulesBy};
 use spots::area_of;
 use spots::corners_of;
 use spots::position_at;
@@ -147,10 +147,13 @@ pub fn intersect(values: &[f64], room: &mut [f64]) -> triangles::Answer
     settled(values, room, d, e, p, q, r)
 }
 
-// Two triangles, U0x, U0y, .. V2y: what is decided of them.
+// Two triangles, U0x, U0y, .. V2y: what is decided of them. Those whose boxes share no point are apart; any others are given to the triangle rules.
 pub fn decision(values: &[f64]) -> triangles::Decision
     ensures { λ r. ⌜ Decided (now (values .entry)) r ⌝ }
 {
+    if front::is_far(values) {
+        return triangles::Decision::Apart;
+    }
     let mut room = [0.0; 12];
     decisions::decision_from(intersect(values, &mut room))
 }
@@ -162,10 +165,10 @@ pub fn decide(values: &[f64]) -> triangles::Said
     decisions::said_of(decision(values))
 }
 
-// What is decided of two shapes, by their sides and crosses as they stand. Where each was made ready by `shapes::shape_of` it is what is decided of their
-// twelve values.
-pub fn decision_of(u: shapes::Shape, v: shapes::Shape) -> triangles::Decision
-    ensures { λ r. ⌜ r ≡ decisionBy u v ⌝ }
+// What the triangle rules decide of two shapes, by their sides and crosses as they stand. Where each was made ready by `shapes::shape_of` it is what the rules
+// decide of their twelve values. Boxes are not looked at: the caller has.
+pub fn by_rules(u: shapes::Shape, v: shapes::Shape) -> triangles::Decision
+    ensures { λ r. ⌜ r ≡ rulesBy u v ⌝ }
 {
     let d = v.cross;
     let e = u.cross;

@@ -44,6 +44,10 @@ sideA s = record { x = s .ax; y = s .ay }
 abbrev pub sideB : Shape → Position
 sideB s = record { x = s .bx; y = s .by }
 
+-- its coordinates
+abbrev pub sixOf : Shape → List Float
+sixOf s = s .x0 ∷ s .y0 ∷ s .x1 ∷ s .y1 ∷ s .x2 ∷ s .y2 ∷ []
+
 -- U0x, U0y, .. V2y
 abbrev pub twelve : Shape → Shape → List Float
 twelve u v = u .x0 ∷ u .y0 ∷ u .x1 ∷ u .y1 ∷ u .x2 ∷ u .y2 ∷ v .x0 ∷ v .y0 ∷ v .x1 ∷ v .y1 ∷ v .x2 ∷ v .y2 ∷ []

@@ -2,6 +2,7 @@ pub mod Cases
 pub mod Rows
 pub mod Unique
 pub mod Nought
+pub mod Parted
 pub mod Decided
 pub mod Demand
 pub mod Rest

@@ -33,7 +33,7 @@ lengths-test a b = (to (eqb a 12) refl, from)
     from (inl h) = rw (ne-eqb a 12 h) refl
     from (inr h) = rw (lt-ltb b 12 h) (or-true (not (eqb a 12)))
 
-test-applies : (row : Row) (l room : List Float) → (rowTest row l room ≡ true) ↔ Applies row l room
+pub test-applies : (row : Row) (l room : List Float) → (rowTest row l room ≡ true) ↔ Applies row l room
 unfolding rowTest
 test-applies lengths l room = lengths-test (length l) (length room)
 test-applies coordinates l room = unfold wayOf in finite-test l

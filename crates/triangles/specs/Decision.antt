@@ -1,4 +1,4 @@
--- 02, No. 1, in the place of 01's "meets": what is decided of a pair of triangles, and whether it overlaps, touches or is apart. Whatever is asked of pairs above the triangles is asked of this decision. Definitions and statements.
+-- 02, No. 1 and No. 3, in the place of 01's "meets": what is decided of a pair of triangles, and whether it overlaps, touches or is apart. Whatever is asked of pairs above the triangles is asked of this decision. Definitions and statements.
 use mathlib.Core.Path.{_≡_}
 use mathlib.Core.Logic.{_⊎_, _↔_}
 use mathlib.Core.Bool.{Bool, true, false, cond}
@@ -10,10 +10,12 @@ use lib.Ieee.{Float, lt}
 use Rattle.floats.specs.Finite.{nought}
 use Rattle.floats.specs.Lists.{count}
 use Rattle.floats.specs.OneAnswer.{NoSecond}
+use Rattle.boxes.specs.Near.{isNear, Far}
 use Rattle.triangles.specs.declared.Answer.{Answer}
 use Rattle.triangles.specs.declared.Said.{Said}
 use Rattle.triangles.specs.declared.Decision.{Decision}
 use Rattle.triangles.specs.declared.Decision.the-variants.{Refused, Overlapping, Touching, Apart}
+use Rattle.triangles.specs.Refusals.{lengths, coordinates, firstOf}
 use Rattle.triangles.specs.Answers.{wholeOf}
 use Rattle.triangles.specs.Rows.{RefusedBy}
 
@@ -33,10 +35,20 @@ enough = nought ∷ nought ∷ nought ∷ nought ∷ nought ∷ nought ∷ nough
 abbrev pub answerTo : List Float → Answer
 answerTo values = wholeOf values enough .answer
 
--- the pair decision
-unfoldable pub decisionOf : List Float → Decision
+-- what the triangle rules alone decide
+unfoldable pub byRules : List Float → Decision
 unfolding decided wholeOf
-decisionOf values = decided (answerTo values)
+byRules values = decided (answerTo values)
+
+-- the refusals that come before boxes are looked at, 1 and 2, or 0
+unfoldable pub beforeBoxes : List Float → ℕ
+unfolding firstOf
+beforeBoxes values = firstOf (lengths ∷ coordinates ∷ []) values enough
+
+-- the pair decision: refusals 1 and 2; then the boxes, which leave a pair apart where they share no point; then the triangle rules
+unfoldable pub decisionOf : List Float → Decision
+unfolding beforeBoxes isNear byRules
+decisionOf values = cond (eqb (beforeBoxes values) 0) (cond (isNear values) (byRules values) Apart) (Refused (beforeBoxes values))
 
 -- ---- the three kinds of pair
 -- it overlaps, also where it is refused
@@ -68,7 +80,7 @@ said (Overlapping a) = record { number = 0; kind = 2; area = a }
 said Touching = record { number = 0; kind = 1; area = nought }
 said Apart = record { number = 0; kind = 0; area = nought }
 
--- ---- which kind, by the answer's number, n and area
+-- ---- which kind: a pair that is far is apart; of any other its answer's number, n and area tell
 -- refused, or a ring that is not empty and an area above zero
 abbrev pub OverlapsBy : Answer → Type 0
 OverlapsBy a = (a .number ≡ 0 → ⊥) ⊎ ((a .n ≡ 0 → ⊥) × (isAbove (a .area) ≡ true))
@@ -81,16 +93,27 @@ TouchesBy a = (a .number ≡ 0) × (a .n ≡ 0 → ⊥) × (a .area ≡ nought)
 abbrev pub ApartBy : Answer → Type 0
 ApartBy a = (a .number ≡ 0) × (a .n ≡ 0)
 
-pub record KindBy (a : Answer) (d : Decision) : Type 0 where
-  pub overlapping : (overlaps d ≡ true) ↔ OverlapsBy a
-  pub touching : (touches d ≡ true) ↔ TouchesBy a
-  pub apart : (isApart d ≡ true) ↔ ApartBy a
+pub record KindBy (values : List Float) (d : Decision) : Type 0 where
+  pub overlapping : (overlaps d ≡ true) ↔ ((Far values → ⊥) × OverlapsBy (answerTo values))
+  pub touching : (touches d ≡ true) ↔ ((Far values → ⊥) × TouchesBy (answerTo values))
+  pub apart : (isApart d ≡ true) ↔ (Far values ⊎ ApartBy (answerTo values))
   -- exactly one of the three
   pub one : count (λ (is : Decision → Bool). is d) (overlaps ∷ touches ∷ isApart ∷ []) ≡ 1
 
--- every list of values is of exactly one kind, and its answer says which
+-- every list of values is of exactly one kind, and boxes and answer say which
 abbrev pub OneKind : Type 0
-OneKind = (values : List Float) → KindBy (answerTo values) (decisionOf values)
+OneKind = (values : List Float) → KindBy values (decisionOf values)
+
+-- ---- what boxes change
+pub record ByBoxes (values : List Float) : Type 0 where
+  -- a pair that is far is apart, and any other is what the triangle rules say
+  pub far : Far values → decisionOf values ≡ Apart
+  pub near : (Far values → ⊥) → decisionOf values ≡ byRules values
+  -- so wherever the decision is another than theirs the pair is far: on an axis every coordinate of one is below every coordinate of the other
+  pub differs : (decisionOf values ≡ byRules values → ⊥) → Far values
+
+abbrev pub BoxesFirst : Type 0
+BoxesFirst = (values : List Float) → ByBoxes values
 
 -- ---- what is promised of a decision in numbers, of any list of values: it says the definition's decision
 pub record SaidOf (values : List Float) (result : Said) : Type 0 where
@@ -101,14 +124,18 @@ NoSecondSaid = (values : List Float) → NoSecond Said (SaidOf values)
 
 -- so of the very result that was returned:
 pub record SaidDemand (values : List Float) (result : Said) : Type 0 where
-  -- it is refused exactly as an answer in a room of twelve values is, and its area is that answer's
-  pub refusedBy : (k : ℕ) → (k ≡ 0 → ⊥) → (result .number ≡ k) ↔ RefusedBy k values enough
-  pub number : result .number ≡ answerTo values .number
-  pub area : result .area ≡ answerTo values .area
+  -- a pair that is far is apart, with area 0.0, whatever the triangle rules would say
+  pub far : Far values → (result .number ≡ 0) × (result .kind ≡ 0) × (result .area ≡ nought)
+  -- any other is refused exactly as an answer in a room of twelve values is, and its area is that answer's
+  pub refusedBy : (k : ℕ) → (k ≡ 0 → ⊥) → (result .number ≡ k) ↔ ((Far values → ⊥) × RefusedBy k values enough)
+  pub number : (Far values → ⊥) → result .number ≡ answerTo values .number
+  pub area : (Far values → ⊥) → result .area ≡ answerTo values .area
+  -- 1 and 2 are said before boxes are looked at, so these two exactly as they ever were
+  pub beforeBoxes : (k : ℕ) → (k ≡ 1) ⊎ (k ≡ 2) → (result .number ≡ k) ↔ RefusedBy k values enough
   -- of an answer its kind is the pair's, by n and area
-  pub overlapping : (result .kind ≡ 2) ↔ ((answerTo values .n ≡ 0 → ⊥) × (isAbove (answerTo values .area) ≡ true))
-  pub touching : (result .kind ≡ 1) ↔ TouchesBy (answerTo values)
-  pub apart : ((result .number ≡ 0) × (result .kind ≡ 0)) ↔ ApartBy (answerTo values)
+  pub overlapping : (result .kind ≡ 2) ↔ ((Far values → ⊥) × (answerTo values .n ≡ 0 → ⊥) × (isAbove (answerTo values .area) ≡ true))
+  pub touching : (result .kind ≡ 1) ↔ ((Far values → ⊥) × TouchesBy (answerTo values))
+  pub apart : ((result .number ≡ 0) × (result .kind ≡ 0)) ↔ (Far values ⊎ ApartBy (answerTo values))
   pub kinds : result .kind ≤ 2
   -- beside a refusal's number there are zeros
   pub zeros : (result .number ≡ 0 → ⊥) → (result .kind ≡ 0) × (result .area ≡ nought)

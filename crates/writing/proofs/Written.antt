@@ -10,7 +10,7 @@ use lib.ListN.{length, length-append}
 use Rattle.text.specs.Room.{Put}
 use Rattle.text.proofs.Room.{whole-or-nothing}
 use Rattle.listing.specs.declared.Listed.{Listed}
-use Rattle.listing.specs.Leaks.{Leak}
+use Rattle.listing.specs.Leaks.{Leak, Beside}
 use Rattle.listing.specs.Words.{firstLine, leakLines, closingLine, textOf}
 use Rattle.listing.specs.Listing.{noList, tooShort, listFrom}
 use Rattle.wording.proofs.Lines.{first-length}
@@ -51,31 +51,31 @@ some ls t =
     let all = length-append (firstLine (length ls) ++ leakLines ls) (closingLine t) in
     omega (arith, first, front, all)
 
-module _ (ls : List Leak) (t : ℕ) (room : List ℕ) {after : List ℕ} where
-  pub written-not : {r : Listed} {next : ℕ} → Put room 0 (textOf ls t) after next → next ≡ 0 → r ≡ noList [] tooShort .result → WrittenAs ls t room r after
+module _ (ls : List Leak) (b : Beside) (room : List ℕ) {after : List ℕ} where
+  pub written-not : {r : Listed} {next : ℕ} → Put room 0 (textOf ls (b .touching)) after next → next ≡ 0 → r ≡ noList [] tooShort .result → WrittenAs ls b room r after
   unfolding listFrom
-  written-not {r} {next} p z e = go (ltb (length room) (length (textOf ls t))) refl
+  written-not {r} {next} p z e = go (ltb (length room) (length (textOf ls (b .touching)))) refl
     where
-      go : (b : Bool) → ltb (length room) (length (textOf ls t)) ≡ b → WrittenAs ls t room r after
-      go true l = let h = ltb-true (length room) (length (textOf ls t)) l in
+      go : (x : Bool) → ltb (length room) (length (textOf ls (b .touching))) ≡ x → WrittenAs ls b room r after
+      go true l = let h = ltb-true (length room) (length (textOf ls (b .touching))) l in
           record { result-is = e ∙ rw l refl; after-is = whole-or-nothing p .nothing (omega (arith, h)) .0 ∙ rw l refl }
       go false l =
-          let h = ltb-false (length room) (length (textOf ls t)) l in
+          let h = ltb-false (length room) (length (textOf ls (b .touching))) l in
           let behind = whole-or-nothing p .whole (omega (arith, h)) .1 in
-          let full = some ls t in
+          let full = some ls (b .touching) in
           absurd (omega (arith, behind, z, full))
 
-  pub written-all : {next count : ℕ} → Put room 0 (textOf ls t) after next → (next ≡ 0 → ⊥) → count ≡ length ls → WrittenAs ls t room (record { number = 0; place = 0; length = next; leaks = count; touching = t }) after
+  pub written-all : {next count : ℕ} → Put room 0 (textOf ls (b .touching)) after next → (next ≡ 0 → ⊥) → count ≡ length ls → WrittenAs ls b room (record { number = 0; place = 0; length = next; leaks = count; touching = b .touching; tested = b .tested }) after
   unfolding listFrom
-  written-all {next} {count} p n e = go (ltb (length room) (length (textOf ls t))) refl
+  written-all {next} {count} p n e = go (ltb (length room) (length (textOf ls (b .touching)))) refl
     where
-      go : (b : Bool) → ltb (length room) (length (textOf ls t)) ≡ b → WrittenAs ls t room (record { number = 0; place = 0; length = next; leaks = count; touching = t }) after
-      go true l = let h = ltb-true (length room) (length (textOf ls t)) l in absurd (n (whole-or-nothing p .nothing (omega (arith, h)) .1))
+      go : (x : Bool) → ltb (length room) (length (textOf ls (b .touching))) ≡ x → WrittenAs ls b room (record { number = 0; place = 0; length = next; leaks = count; touching = b .touching; tested = b .tested }) after
+      go true l = let h = ltb-true (length room) (length (textOf ls (b .touching))) l in absurd (n (whole-or-nothing p .nothing (omega (arith, h)) .1))
       go false l =
-          let h = ltb-false (length room) (length (textOf ls t)) l in
+          let h = ltb-false (length room) (length (textOf ls (b .touching))) l in
           let behind = whole-or-nothing p .whole (omega (arith, h)) .1 in
-          let size : next ≡ length (textOf ls t) = omega (arith, behind) in
+          let size : next ≡ length (textOf ls (b .touching)) = omega (arith, behind) in
           record { result-is = rw (l, size, e) refl; after-is = p .after-is ∙ rw l refl }
 
 pub no-second-written : NoSecondWritten
-no-second-written ls t room r s a b p q = (p .result-is ∙ sym (q .result-is), p .after-is ∙ sym (q .after-is))
+no-second-written ls c room r s a b p q = (p .result-is ∙ sym (q .result-is), p .after-is ∙ sym (q .after-is))

@@ -6,7 +6,8 @@ use mathlib.Core.List.{List, [], _∷_, _++_}
 use lib.Dec.{ltb}
 use lib.ListN.{length, getD}
 use Rattle.listing.specs.declared.Listed.{Listed}
-use Rattle.listing.specs.Leaks.{Leak}
+use Rattle.listing.specs.declared.Counts.{Counts}
+use Rattle.listing.specs.Leaks.{Leak, Beside}
 use Rattle.listing.specs.Words.{leakLine}
 use Rattle.listing.specs.Listing.{listFrom}
 
@@ -32,11 +33,15 @@ lesser a b = cond (ltb a b) a b
 unfoldable pub heldIn : List ℕ → ℕ → ℕ
 heldIn found k = lesser k (lesser (length found / 3) 4096)
 
--- what is promised of writing them, with so many pairs of recordings that only touch: the result and the room afterwards
-pub record WrittenAs (ls : List Leak) (touching : ℕ) (room : List ℕ) (result : Listed) (after : List ℕ) : Type 0 where
-  pub result-is : result ≡ listFrom ls touching room .result
-  pub after-is : after ≡ listFrom ls touching room .room
+-- what is counted beside them
+abbrev pub besideIn : Counts → Beside
+besideIn c = record { touching = c .touching; tested = c .tested }
+
+-- what is promised of writing them, with what is counted beside them: the result and the room afterwards
+pub record WrittenAs (ls : List Leak) (b : Beside) (room : List ℕ) (result : Listed) (after : List ℕ) : Type 0 where
+  pub result-is : result ≡ listFrom ls b room .result
+  pub after-is : after ≡ listFrom ls b room .room
 
 -- no second result and no second room meets it
 abbrev pub NoSecondWritten : Type 0
-NoSecondWritten = (ls : List Leak) (touching : ℕ) (room : List ℕ) (r s : Listed) (a b : List ℕ) → WrittenAs ls touching room r a → WrittenAs ls touching room s b → (r ≡ s) × (a ≡ b)
+NoSecondWritten = (ls : List Leak) (c : Beside) (room : List ℕ) (r s : Listed) (a b : List ℕ) → WrittenAs ls c room r a → WrittenAs ls c room s b → (r ≡ s) × (a ≡ b)

@@ -7,7 +7,7 @@ ghost use Rattle.layout.specs.Verdict.{numberAt};
 ghost use Rattle.text.specs.Room.{Measured, Put};
 ghost use Rattle.listing.specs.Words.{textOf};
 ghost use Rattle.listing.specs.Listing.{noList};
-ghost use Rattle.writing.specs.Triples.{leaksIn, linesIn, lesser as lesserOf, heldIn, WrittenAs};
+ghost use Rattle.writing.specs.Triples.{leaksIn, linesIn, lesser as lesserOf, heldIn, besideIn, WrittenAs};
 
 // A refusal: its number and its place, with zeros.
 pub fn no_list(number: u32, place: u32) -> listing::Listed
@@ -19,6 +19,7 @@ pub fn no_list(number: u32, place: u32) -> listing::Listed
         length: 0,
         leaks: 0,
         touching: 0,
+        tested: 0,
     }
 }
 
@@ -79,9 +80,9 @@ fn put_list(room: &mut [u8], found: &[u32], k: usize, touching: u32) -> usize
     wording::put_closing(room, q, touching)
 }
 
-// The list of the leaks that were found, of as many as there are numbers for and 4,096 at most, and of the pairs of recordings that only touch; or refusal 7 where the room is shorter than the list, and the room as it was.
+// The list of the leaks that were found, of as many as there are numbers for and 4,096 at most, with what was counted beside them; or refusal 7 where the room is shorter than the list, and the room as it was.
 pub fn write(room: &mut [u8], found: &[u32], c: listing::Counts) -> listing::Listed
-    ensures { λ r. ⌜ WrittenAs (leaksIn (now (found .entry)) (heldIn (now (found .entry)) (c .leaks))) (c .touching) (now (room .entry)) r (now (room .exit)) ⌝ }
+    ensures { λ r. ⌜ WrittenAs (leaksIn (now (found .entry)) (heldIn (now (found .entry)) (c .leaks))) (besideIn c) (now (room .entry)) r (now (room .exit)) ⌝ }
 {
     let n = lesser(c.leaks as usize, lesser(found.len() / 3, 4096));
     let size = put_list(room, found, n, c.touching);
@@ -95,5 +96,6 @@ pub fn write(room: &mut [u8], found: &[u32], c: listing::Counts) -> listing::Lis
         length: size,
         leaks: n as u32,
         touching: c.touching,
+        tested: c.tested,
     }
 }

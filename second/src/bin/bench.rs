@@ -10,9 +10,9 @@ use second::footprint::{self, Entry, Verdict, MOST_BYTES};
 use second::leaks::{self, List};
 use second::library;
 use second::triangles;
-use second::workloads::{file_of_tracks, largest_draft, largest_file, pairs, pairs_of_tracks, unforeseen};
-use second::workloads::{fold, fold_list, fold_verdict, fold_written, Values};
-use second::workloads::{FILE, LEAKS, MOST_TRACKS, NAMES, WRITE};
+use second::workloads::tracks::{file_of_tracks, pairs_of_tracks, DIAGONALS, LEAKS, MOST_TRACKS};
+use second::workloads::{fold, fold_list, fold_verdict, fold_written, Values, FILE, NAMES, WRITE};
+use second::workloads::{largest_draft, largest_file, pairs, unforeseen};
 use second::writer::{self, Handed, Written};
 
 const PAIRS: usize = 2_000;
@@ -24,11 +24,11 @@ const ROUNDS_OF_LISTS: usize = 12;
 
 fn main() -> ExitCode {
     println!(
-        "{:<8} {:>7} {:>23} {:>23} {:>15}",
+        "{:<9} {:>7} {:>23} {:>23} {:>15}",
         "", "overlap", "library ns/pair", "second ns/pair", "library/second"
     );
     println!(
-        "{:<8} {:>7} {:>23} {:>23} {:>15}",
+        "{:<9} {:>7} {:>23} {:>23} {:>15}",
         "pairs", "%", "least  median", "least  median", "least  median"
     );
     for name in NAMES {
@@ -39,12 +39,14 @@ fn main() -> ExitCode {
         }
         measure(name, &prepared);
     }
-    let file = file_of_tracks(MOST_TRACKS);
-    if list_of(&file, library::leaks) != list_of(&file, leaks::leaks) {
-        println!("{LEAKS}: the two programs answer differently");
-        return ExitCode::FAILURE;
+    for name in [LEAKS, DIAGONALS] {
+        let file = file_of_tracks(name, MOST_TRACKS).expect("every named workload exists");
+        if list_of(&file, library::leaks) != list_of(&file, leaks::leaks) {
+            println!("{name}: the two programs answer differently");
+            return ExitCode::FAILURE;
+        }
+        measure_leaks(name, &file);
     }
-    measure_leaks(&file);
     let file = largest_file();
     if everything_of(&file, library::check, library::recording)
         != everything_of(&file, footprint::judge, footprint::recording)
@@ -122,19 +124,19 @@ fn measure(name: &str, pairs: &[Values]) {
     print_row(name, percent(overlapping, pairs.len()), 1, times);
 }
 
-fn measure_leaks(file: &[u8]) {
+fn measure_leaks(name: &str, file: &[u8]) {
     let times =
         in_turn(ROUNDS_OF_LISTS, || time_listing(file, library::leaks), || time_listing(file, leaks::leaks));
     let list = leaks::whole_list(file).expect("the file is a good one");
     let overlapping: u32 = list.leaks.iter().map(|leak| leak.pairs).sum();
-    print_row(LEAKS, percent(overlapping as usize, pairs_of_tracks(MOST_TRACKS)), 1, times);
+    print_row(name, percent(overlapping as usize, pairs_of_tracks(MOST_TRACKS)), 2, times);
 }
 
 fn measure_file(file: &[u8]) {
     let times =
         in_turn(ROUNDS, || time_judging(file, library::check), || time_judging(file, footprint::judge));
     println!(
-        "{:<8} {:>7} {:>23} {:>23} {:>15}",
+        "{:<9} {:>7} {:>23} {:>23} {:>15}",
         "", "bytes", "library ns/byte", "second ns/byte", "library/second"
     );
     print_row(FILE, file.len().to_string(), 3, times);
@@ -158,7 +160,7 @@ type Times = ((f64, f64), (f64, f64));
 
 fn print_row(name: &str, share: String, decimals: usize, (library, second): Times) {
     println!(
-        "{name:<8} {share:>7} {:>13.*} {:>9.*} {:>13.*} {:>9.*} {:>7.3} {:>7.3}",
+        "{name:<9} {share:>7} {:>13.*} {:>9.*} {:>13.*} {:>9.*} {:>7.3} {:>7.3}",
         decimals,
         library.0,
         decimals,

@@ -9,16 +9,19 @@ use second::classes::{decisions, draw, formulas, worked, CLASSES};
 use second::coverage::Coverage;
 use second::decision::decide;
 use second::random::Random;
-use second::tally::Tally;
+use second::tally::{Row, Tally, BOXES_TABLE};
 use second::triangles::{intersect, intersect_traced};
 
 const SEED: u64 = 300;
-/// How many there are before those that tell formulas and decisions apart.
+/// How many there are before those that tell formulas, decisions and boxes apart.
 const CASES: usize = 320;
 /// How many cases of each class are taken as they come.
 const OF_EACH_CLASS: usize = 4;
-/// How often everything that is counted must occur.
+/// How often everything that is counted must occur; boxes have cases of their own.
 const SEVERAL: usize = 6;
+/// No input of a case has more values, and no room is longer.
+const MOST_VALUES: usize = 21;
+const LONGEST_ROOM: usize = 20;
 
 fn main() -> ExitCode {
     let line_of = match std::env::args().nth(1).as_deref() {
@@ -40,24 +43,25 @@ fn main() -> ExitCode {
 }
 
 /// The worked cases, some of each class, then whatever is still rare, then any; last, those that tell
-/// formulas apart, and decisions.
+/// formulas apart, decisions, and boxes.
 fn chosen() -> Vec<Case> {
     let mut random = Random::new(SEED);
     let mut tally = Tally::default();
     let mut cases = worked::in_turn();
-    for (index, class) in CLASSES.iter().enumerate() {
+    for class in 0..CLASSES.len() {
         for _ in 0..OF_EACH_CLASS {
-            let case = plain(class.case(&mut random));
-            tally.count(index, &coverage_of(&case));
+            let case = drawn(class, &mut random);
+            tally.count(class, &coverage_of(&case));
             cases.push(case);
         }
     }
-    while tally.rows.iter().any(|row| row.count < SEVERAL) || cases.len() < CASES {
+    let is_rare = |row: &Row| row.count < SEVERAL && row.table != BOXES_TABLE;
+    while tally.rows.iter().any(is_rare) || cases.len() < CASES {
         let class = draw(&mut random);
-        let case = plain(CLASSES[class].case(&mut random));
+        let case = drawn(class, &mut random);
         let coverage = coverage_of(&case);
-        let rare = tally.rows.iter().any(|row| row.count < SEVERAL);
-        let helps = Tally::rows_of(class, &coverage).iter().any(|row| tally.rows[*row].count < SEVERAL);
+        let rare = tally.rows.iter().any(is_rare);
+        let helps = Tally::rows_of(class, &coverage).iter().any(|row| is_rare(&tally.rows[*row]));
         if helps || !rare {
             tally.count(class, &coverage);
             cases.push(case);
@@ -65,7 +69,17 @@ fn chosen() -> Vec<Case> {
     }
     cases.extend(formulas::in_turn());
     cases.extend(decisions::in_turn());
+    cases.extend(decisions::boxes_in_turn());
     cases
+}
+
+fn drawn(class: usize, random: &mut Random) -> Case {
+    loop {
+        let case = plain(CLASSES[class].case(random));
+        if case.values.len() <= MOST_VALUES && case.room_length <= LONGEST_ROOM {
+            return case;
+        }
+    }
 }
 
 /// With one NaN for all NaNs: a test program need not carry payloads.

@@ -83,7 +83,7 @@ fn expected_line(case: &Case) -> String {
     let mut room = vec![UNWRITTEN; case.room_length];
     let list = leaks(&case.file, &mut room);
     let mut line = String::new();
-    for number in [list.number, list.place, list.length as u32, list.leaks, list.touching] {
+    for number in [list.number, list.place, list.length as u32, list.leaks, list.touching, list.tested] {
         write!(line, "{number:08x} ").expect("a string takes all that is written to it");
     }
     append_bytes(&mut line, &room);

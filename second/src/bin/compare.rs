@@ -5,7 +5,7 @@ use std::process::ExitCode;
 use second::case::Case;
 use second::classes::{draw, CLASSES};
 use second::coverage::Coverage;
-use second::decision::{decide, decision_of, Decision};
+use second::decision::{decide, decision_of, is_far, Decision};
 use second::lent::{same_bits, Lent};
 use second::library::{self, Returned};
 use second::random::Random;
@@ -73,7 +73,7 @@ fn compare(case: &Case, with_null: bool, coverage: &mut Coverage) -> Result<(), 
     let answer = intersect_traced(input.values(), room_of_second.lend(), coverage);
     let call = if with_null { library::decide_with_null } else { library::decide };
     let decided = call(input_lent.lend());
-    let decision = if case.room_length < ROOM { decide(input.values()) } else { decision_of(&answer) };
+    let decision = decision_on(&input, case.room_length, &answer);
     coverage.decided(input.values(), decision);
 
     let mut differences = differing_fields(&returned, &answer);
@@ -93,6 +93,14 @@ fn compare(case: &Case, with_null: bool, coverage: &mut Coverage) -> Result<(), 
     report += &format!("second  {answer:?}\n{}", values_text(room_of_second.values()));
     report += &format!("library {decided:?}\nsecond  {decision:?}\n");
     Err(report)
+}
+
+/// The answer says it, unless the room was too short for one or boxes decide.
+fn decision_on(input: &Lent, room_length: usize, answer: &Answer) -> Decision {
+    if room_length < ROOM || is_far(input.values()) {
+        return decide(input.values());
+    }
+    decision_of(answer)
 }
 
 fn differing_fields(returned: &Returned, answer: &Answer) -> Vec<&'static str> {

@@ -132,8 +132,8 @@ fn compare_endless() -> Result<(), String> {
 /// What is known of its list beforehand is looked at as well.
 fn compare_large(large: &Large, memory: &mut Memory, random: &mut Random) -> Result<(), String> {
     let whole = whole_list(&large.file);
-    if !whole.as_ref().map_or(false, |whole| whole.text == large.list) {
-        return Err("the second program has another list than is known".to_string());
+    if !whole.as_ref().map_or(false, |whole| whole.text == large.list && whole.tested == large.tested) {
+        return Err("the second program has another list, or tested others, than is known".to_string());
     }
     let mut rooms = vec![Room::of(large.list.len())];
     if !large.slow {

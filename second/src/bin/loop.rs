@@ -6,8 +6,9 @@ use second::footprint::{judge, Verdict, MOST_BYTES};
 use second::leaks::{leaks, List};
 use second::library;
 use second::triangles;
-use second::workloads::{file_of_tracks, largest_draft, largest_file, pairs, unforeseen, Values};
-use second::workloads::{fold, fold_list, fold_verdict, fold_written, FILE, LEAKS, MOST_TRACKS, WRITE};
+use second::workloads::tracks::{file_of_tracks, MOST_TRACKS};
+use second::workloads::{fold, fold_list, fold_verdict, fold_written, FILE, WRITE};
+use second::workloads::{largest_draft, largest_file, pairs, unforeseen, Values};
 use second::writer::{write, Handed, Written};
 
 fn main() -> ExitCode {
@@ -17,7 +18,8 @@ fn main() -> ExitCode {
             ExitCode::SUCCESS
         }
         None => {
-            eprintln!("usage: loop library|second random|strips|far|file|write|leaks COUNT ROUNDS");
+            eprintln!("usage: loop library|second WORKLOAD COUNT ROUNDS");
+            eprintln!("workloads: random, strips, far, file, write, leaks, diagonals, crowded-TIMES");
             ExitCode::from(2)
         }
     }
@@ -36,8 +38,8 @@ fn checksum() -> Option<u64> {
     if workload == WRITE {
         return files(side, count * rounds);
     }
-    if workload == LEAKS {
-        return lists(side, count, rounds);
+    if let Some(file) = file_of_tracks(workload, count.min(MOST_TRACKS)) {
+        return lists(side, &file, rounds);
     }
     let prepared = pairs(workload, count)?;
     let round = match side.as_str() {
@@ -72,16 +74,21 @@ fn files(side: &str, count: usize) -> Option<u64> {
     Some(room.iter().fold(sum, |sum, byte| sum.rotate_left(7) ^ u64::from(*byte)))
 }
 
-/// Of one file with so many recordings of either set. The last list is looked at itself, once.
-fn lists(side: &str, recordings: usize, rounds: usize) -> Option<u64> {
+/// Of one file again and again. The last list is looked at itself, once, and its tested pairs are printed.
+fn lists(side: &str, file: &[u8], rounds: usize) -> Option<u64> {
     let list: fn(&[u8], &mut [u8]) -> List = match side {
         "library" => library::leaks,
         "second" => leaks,
         _ => return None,
     };
-    let file = file_of_tracks(recordings.min(MOST_TRACKS));
     let mut room = [0; MOST_BYTES];
-    let sum = (0..rounds).fold(0, |sum, _| fold_list(sum, list(unforeseen(&file), &mut room)));
+    let (mut sum, mut tested) = (0, 0);
+    for _ in 0..rounds {
+        let answer = list(unforeseen(file), &mut room);
+        sum = fold_list(sum, answer);
+        tested = answer.tested;
+    }
+    println!("tested {tested}");
     let written = room.iter().take_while(|byte| **byte != 0);
     Some(written.fold(sum, |sum, byte| sum.rotate_left(7) ^ u64::from(*byte)))
 }

@@ -16,7 +16,7 @@ const NOT_FINITE: [u64; 7] = [
     0x7fff_ffff_ffff_ffff,
 ];
 
-fn spoil(values: &mut [f64], random: &mut Random) {
+pub fn spoil(values: &mut [f64], random: &mut Random) {
     let place = random.below(values.len());
     values[place] = f64::from_bits(random.pick(&NOT_FINITE));
 }

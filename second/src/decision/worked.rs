@@ -4,13 +4,13 @@ use super::{decide, APART, OVERLAPPING, TOUCHING};
 use crate::case::times_power_of_two;
 use crate::classes::worked;
 
-fn expect(values: &[f64], number: u32, kind: u32, area: f64) {
+pub fn expect(values: &[f64], number: u32, kind: u32, area: f64) {
     let decision = decide(values);
     assert_eq!((decision.number, decision.kind), (number, kind));
     assert_eq!(decision.area.to_bits(), area.to_bits());
 }
 
-fn expect_refusal(values: &[f64], number: u32) {
+pub fn expect_refusal(values: &[f64], number: u32) {
     expect(values, number, APART, 0.0);
     let decision = decide(values);
     assert!(decision.overlaps() && !decision.touches());

@@ -62,7 +62,7 @@ pub fn thin(random: &mut Random) -> Triangle {
 }
 
 /// The greatest common divisor g of a and b, and (u, v) with a·v − b·u = g.
-fn bezout(a: i64, b: i64) -> (i64, [i64; 2]) {
+pub fn bezout(a: i64, b: i64) -> (i64, [i64; 2]) {
     if b == 0 {
         return (a, [0, 1]);
     }

@@ -1,12 +1,16 @@
 //! What one list has in it and what its file could have made of it, so that a comparison can say
 //! what it has covered.
 
+pub mod boxes;
+
 use super::of_set;
-use crate::decision::{decide, APART, OVERLAPPING, TOUCHING};
+use crate::decision::{decide, decision_of, is_far, APART, OVERLAPPING, TOUCHING};
 use crate::exact::{common_to, contact_of, Common, Contact};
 use crate::footprint::stored::{triangle, Line, HELD_BACK, TEST, TRAINING, TRIANGLE};
 use crate::footprint::{lines_of, Refused};
 use crate::leaks::{counts_of, Leak, Whole};
+use crate::triangles::{intersect, ROOM};
+use boxes::{twos_of, Two};
 
 /// Of a file with more triangles nothing is said about pairs of them.
 const MOST_TRIANGLES: usize = 60;
@@ -15,6 +19,7 @@ pub struct Coverage<'a> {
     whole: &'a Result<Whole, Refused>,
     /// The table of a good file.
     pub lines: Vec<Line>,
+    pub twos: Vec<Two>,
     pub pairs: Pairs,
 }
 
@@ -46,6 +51,12 @@ pub struct Pairs {
     pub point: bool,
     /// Triangles that truly touch, but by the rules are apart.
     pub missed: bool,
+    /// Triangles that are apart by their boxes alone: the triangle rules find a ring, with an area or
+    /// without.
+    pub else_overlapping: bool,
+    pub else_touching: bool,
+    /// Boxes that share a point, behind an overlapping triangle pair of the same recordings.
+    pub tested_behind: bool,
     pub held_back: HeldBack,
 }
 
@@ -56,6 +67,8 @@ pub struct HeldBack {
     pub leaks_as_training: bool,
     pub touches_as_test: bool,
     pub touches_as_training: bool,
+    pub tested_as_test: bool,
+    pub tested_as_training: bool,
 }
 
 impl HeldBack {
@@ -71,7 +84,8 @@ impl<'a> Coverage<'a> {
         if lines.iter().map(|line| usize::from(line.count)).sum::<usize>() <= MOST_TRIANGLES {
             pairs.look_at(file, &lines);
         }
-        Coverage { whole, lines, pairs }
+        let twos = twos_of(file, &lines);
+        Coverage { whole, lines, twos, pairs }
     }
 
     /// 0 if the file is accepted, whatever the room.
@@ -89,6 +103,19 @@ impl<'a> Coverage<'a> {
 
     pub fn touching(&self) -> u32 {
         self.whole.as_ref().map_or(0, |whole| whole.touching)
+    }
+
+    pub fn tested(&self) -> usize {
+        self.whole.as_ref().map_or(0, |whole| whole.tested as usize)
+    }
+
+    pub fn triangle_pairs(&self) -> usize {
+        self.twos.iter().map(Two::pairs).sum()
+    }
+
+    /// Whether a test and a training recording are so.
+    pub fn any(&self, are: impl Fn(&Two) -> bool) -> bool {
+        self.twos.iter().any(are)
     }
 
     /// The whole list; nothing of a refused file.
@@ -121,11 +148,13 @@ impl Pairs {
             let part = held_back.part(file);
             for training in of_set(lines, TRAINING) {
                 let counts = counts_of(part, training.part(file));
+                self.held_back.tested_as_test |= counts.tested > 0;
                 self.held_back.leaks_as_test |= counts.leak();
                 self.held_back.touches_as_test |= counts.only_touch();
             }
             for test in of_set(lines, TEST) {
                 let counts = counts_of(test.part(file), part);
+                self.held_back.tested_as_training |= counts.tested > 0;
                 self.held_back.leaks_as_training |= counts.leak();
                 self.held_back.touches_as_training |= counts.only_touch();
             }
@@ -135,10 +164,13 @@ impl Pairs {
     fn look_at_recordings(&mut self, test: &[u8], training: &[u8]) {
         let mut rings = Vec::new();
         let mut by_rounding = 0;
+        let mut overlapped = false;
         for (i, u) in test.chunks_exact(TRIANGLE).enumerate() {
             for (j, v) in training.chunks_exact(TRIANGLE).enumerate() {
-                let (kind, truly_overlap) = self.look_at_triangles(triangle(u), triangle(v));
+                let Looked { kind, truly_overlap, far } = self.look_at_triangles(triangle(u), triangle(v));
                 by_rounding += u32::from(kind == OVERLAPPING && !truly_overlap);
+                self.tested_behind |= overlapped && !far;
+                overlapped |= kind == OVERLAPPING;
                 if kind != APART {
                     rings.push(([i, j], kind));
                 }
@@ -165,8 +197,7 @@ impl Pairs {
         }
     }
 
-    /// The kind of two triangles of a good file, and whether they truly share an area.
-    fn look_at_triangles(&mut self, u: [i32; 6], v: [i32; 6]) -> (u32, bool) {
+    fn look_at_triangles(&mut self, u: [i32; 6], v: [i32; 6]) -> Looked {
         let mut values = [0.0; 12];
         values[..6].copy_from_slice(&u.map(f64::from));
         values[6..].copy_from_slice(&v.map(f64::from));
@@ -178,6 +209,21 @@ impl Pairs {
             self.part_of_an_edge |= contact == Some(Contact::PartOfAnEdge);
             self.point |= contact == Some(Contact::Point);
         }
-        (kind, common == Some(Common::Area))
+        let far = is_far(&values);
+        if far {
+            let alone = decision_of(&intersect(&values, &mut [0.0; ROOM]));
+            self.else_overlapping |= alone.overlaps();
+            self.else_touching |= alone.touches();
+        }
+        Looked { kind, truly_overlap: common == Some(Common::Area), far }
     }
+}
+
+/// What two triangles of a good file are.
+struct Looked {
+    kind: u32,
+    /// Whether they truly share an area.
+    truly_overlap: bool,
+    /// Whether their boxes share no point.
+    far: bool,
 }

@@ -1,5 +1,7 @@
 //! What a wrong program could do unseen unless a list, or a room lent for it, brings it about.
 
+pub mod boxes;
+
 use super::coverage::Coverage;
 use super::rooms::{before_last_line, Room};
 use crate::footprint::stored::{HELD_BACK, TEST, TRAINING};

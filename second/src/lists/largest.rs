@@ -11,6 +11,7 @@ pub struct Large {
     pub name: &'static str,
     pub file: Vec<u8>,
     pub list: String,
+    pub tested: u32,
     /// Whether a call takes so long that one will have to do.
     pub slow: bool,
 }
@@ -18,9 +19,11 @@ pub struct Large {
 pub fn all() -> Vec<Large> {
     let one = most_triangles(1) as u16;
     let of_one = |set: u8| Draft::of(&[7], &[one], &[set], inner(one.into())).bytes();
-    let nothing = |name, file| Large { name, file, list: NOTHING.to_string(), slow: false };
+    let nothing = |name, file| Large { name, file, list: NOTHING.to_string(), tested: 0, slow: false };
     vec![
         one_pair_of_recordings(),
+        all_near_and_apart(),
+        none_near(),
         all_lines(),
         all_touching(),
         lines_and_touching(),
@@ -49,6 +52,45 @@ fn one_pair_of_recordings() -> Large {
         name: "1,364 x 1,365 triangles that all overlap",
         file: Draft::of(&ids, &counts, &[TRAINING, TEST], triangles).bytes(),
         list: "leaks 1\ntest 4294967294 train 4294967295 pairs 1861860\ntouching 0\n".to_string(),
+        tested: ALL_PAIRS,
+        slow: true,
+    }
+}
+
+const ALL_PAIRS: u32 = 1_364 * 1_365;
+
+fn two_recordings(tests: Part, trainings: Part) -> Vec<u8> {
+    let counts = [tests.len() as u16, trainings.len() as u16];
+    Draft::of(&[3, 4], &counts, &[TEST, TRAINING], [tests, trainings].concat()).bytes()
+}
+
+/// The boxes all hold (750,750), but the ones lie below the line x + y = 1001 and the others above 2499.
+fn all_near_and_apart() -> Large {
+    let below = |k: i32| [-k, -k, 1_000, -k, -k, 1_000];
+    let above = |k: i32| [2_000 + k, 2_000 + k, 2_000 + k, 500, 500, 2_000 + k];
+    Large {
+        name: "1,364 x 1,365 triangles that are apart, with near boxes",
+        file: two_recordings((0..1_364).map(below).collect(), (0..1_365).map(above).collect()),
+        list: NOTHING.to_string(),
+        tested: ALL_PAIRS,
+        slow: true,
+    }
+}
+
+/// Cells of a board, by turns the one's and the other's.
+fn none_near() -> Large {
+    let cell = |k: i32| {
+        let (x, y) = (6 * (k % 53), 6 * (k / 53));
+        [x, y, x + 5, y, x, y + 5]
+    };
+    Large {
+        name: "1,364 x 1,365 triangles side by side",
+        file: two_recordings(
+            (0..1_364).map(|k| cell(2 * k)).collect(),
+            (0..1_365).map(|k| cell(2 * k + 1)).collect(),
+        ),
+        list: NOTHING.to_string(),
+        tested: 0,
         slow: true,
     }
 }
@@ -68,6 +110,11 @@ fn by_turns(tests: impl Fn(usize) -> Part, trainings: impl Fn(usize) -> Part) ->
     let ids: Vec<u32> = (0..32).flat_map(|k| [test_id(k), training_id(k)]).collect();
     let counts: Vec<u16> = parts.iter().map(|part| part.len() as u16).collect();
     Draft::of(&ids, &counts, &[TEST, TRAINING].repeat(32), parts.concat()).bytes()
+}
+
+/// Of such a file, from how many triangles each of its recordings has.
+fn triangle_pairs(of_test: fn(usize) -> usize, of_training: fn(usize) -> usize) -> u32 {
+    ((0..32).map(of_test).sum::<usize>() * (0..32).map(of_training).sum::<usize>()) as u32
 }
 
 /// The list of such a file, from the number of overlapping pairs of every two recordings.
@@ -90,6 +137,7 @@ fn all_lines() -> Large {
         name: "32 x 32 recordings that all overlap",
         file: by_turns(|k| inner(of_test(k)), |k| outer(of_training(k))),
         list: list_of(|test, training| of_test(test) * of_training(training), 0),
+        tested: triangle_pairs(of_test, of_training),
         slow: false,
     }
 }
@@ -106,10 +154,12 @@ fn beside_the_axis(side: i32, k: usize) -> Triangle {
 /// Every test recording with every training one, in one to six triangle pairs.
 fn all_touching() -> Large {
     let part = |side: i32, k: usize, count: usize| (k..k + count).map(|k| beside_the_axis(side, k)).collect();
+    let (of_test, of_training) = (|k: usize| 1 + k % 2, |k: usize| 1 + k % 3);
     Large {
         name: "32 x 32 recordings that all touch",
-        file: by_turns(|k| part(1, k, 1 + k % 2), |k| part(-1, k, 1 + k % 3)),
+        file: by_turns(|k| part(1, k, of_test(k)), |k| part(-1, k, of_training(k))),
         list: "leaks 0\ntouching 1024\n".to_string(),
+        tested: triangle_pairs(of_test, of_training),
         slow: false,
     }
 }
@@ -134,6 +184,8 @@ fn lines_and_touching() -> Large {
             |test, training| usize::from(of_test(test) && of_training(training)),
             32 * 32 - overlapping,
         ),
+        // All beside the axis with one another, and all far from it with one another.
+        tested: 32 * 32 + overlapping as u32,
         slow: false,
     }
 }
@@ -167,6 +219,7 @@ mod tests {
         for large in all().iter().filter(|large| !large.slow) {
             let whole = whole_list(&large.file).expect("a good file");
             assert_eq!(whole.text, large.list, "{}", large.name);
+            assert_eq!(whole.tested, large.tested, "{}", large.name);
         }
     }
 }

@@ -55,15 +55,43 @@ fn of_digits(digits: u32, random: &mut Random) -> u32 {
 
 /// Everything larger by a factor, and somewhere else in the range. What touched, touches.
 pub fn placed(parts: &mut [Part], random: &mut Random) {
-    let farthest = parts.iter().flatten().flatten().map(|value| value.abs()).max().unwrap_or(1);
-    let most = FARTHEST / farthest;
+    let most = FARTHEST / farthest_in(parts);
     let some = random.between(1, most);
     let factor = random.pick(&[1, 1, 7.min(most), some, most]);
-    let room = FARTHEST - factor * farthest;
+    enlarged_and_moved(parts, factor, random);
+}
+
+/// Somewhere else in the range, and of the same size.
+pub fn moved(parts: &mut [Part], random: &mut Random) {
+    enlarged_and_moved(parts, 1, random);
+}
+
+fn farthest_in(parts: &[Part]) -> i32 {
+    parts.iter().flatten().flatten().map(|value| value.abs()).max().unwrap_or(1)
+}
+
+fn enlarged_and_moved(parts: &mut [Part], factor: i32, random: &mut Random) {
+    let room = FARTHEST - factor * farthest_in(parts);
     let by = [0; 2].map(|_| random.between(-room, room));
     for triangle in parts.iter_mut().flatten() {
         for (k, value) in triangle.iter_mut().enumerate() {
             *value = *value * factor + by[k % 2];
+        }
+    }
+}
+
+/// Axes exchanged or not, and each of them turned over or not.
+pub fn seen_from_any_side(parts: &mut [Part], random: &mut Random) {
+    let [exchange, turn_x, turn_y] = [0; 3].map(|_| random.once_in(2));
+    for vertex in parts.iter_mut().flatten().flat_map(|triangle| triangle.chunks_exact_mut(2)) {
+        if exchange {
+            vertex.swap(0, 1);
+        }
+        if turn_x {
+            vertex[0] = -vertex[0];
+        }
+        if turn_y {
+            vertex[1] = -vertex[1];
         }
     }
 }

@@ -1,11 +1,13 @@
 //! Recordings whose triangles overlap, touch or miss one another more often than by chance.
 
 use super::recordings::{file_of, placed, sets, Part};
-use crate::classes::{touching, worked as cases};
+use crate::classes::{needles, touching, worked as cases};
+use crate::decision::decide;
 use crate::files::draft::Triangle;
 use crate::files::shapes::{self, cross};
 use crate::footprint::stored::{HELD_BACK, TEST, TRAINING};
 use crate::random::Random;
+use crate::triangles::{intersect, ROOM};
 
 /// The worked cases that a file can hold, as U and V: A to H.
 fn worked_pairs() -> Vec<[Triangle; 2]> {
@@ -40,9 +42,38 @@ pub fn touching(random: &mut Random) -> Vec<u8> {
     of_pairs(&pairs, random)
 }
 
-/// One pair, at the very place where rounding does most to it.
+/// One pair, at the very place where rounding does most to it; at times one that overlaps by rounding, if
+/// some tries find such a one.
 pub fn part_of_an_edge(random: &mut Random) -> Vec<u8> {
-    let [test, training] = both(&touching::part_of_an_edge(random).shuffled(random).values());
+    let tries = random.pick(&[1, 6]);
+    let mut pair = touching::part_of_an_edge(random).shuffled(random);
+    for _ in 1..tries {
+        if decide(&pair.values()).overlaps() {
+            break;
+        }
+        pair = touching::part_of_an_edge(random).shuffled(random);
+    }
+    one_each(both(&pair.values()), random)
+}
+
+/// One pair that is far by its boxes, and that the triangle rules give a ring, with an area or without, if
+/// some tries find such a one.
+pub fn needle(random: &mut Random) -> Vec<u8> {
+    const TRIES: usize = 40;
+    let with_area = random.once_in(2);
+    let mut pair = needles::beyond_the_tip(random);
+    for _ in 1..TRIES {
+        pair = pair.shuffled(random);
+        let answer = intersect(&pair.values(), &mut [0.0; ROOM]);
+        if answer.n > 0 && (answer.area > 0.0) == with_area {
+            break;
+        }
+        pair = needles::beyond_the_tip(random);
+    }
+    one_each(both(&pair.values()), random)
+}
+
+fn one_each([test, training]: [Triangle; 2], random: &mut Random) -> Vec<u8> {
     let mut recordings = [(TEST, vec![test]), (TRAINING, vec![training])];
     random.shuffle(&mut recordings);
     let (sets, parts): (Vec<u8>, Vec<Part>) = recordings.into_iter().unzip();
@@ -116,7 +147,7 @@ pub fn one_pair(random: &mut Random) -> Vec<u8> {
 /// Every triangle of the test recording within every one of the training recording, but for some
 /// that are far away.
 pub fn many_pairs(random: &mut Random) -> Vec<u8> {
-    let (tests, trainings) = (3 + random.below(30), 3 + random.below(30));
+    let (tests, trainings) = (3 + random.below(40), 3 + random.below(40));
     let mut inner: Part = (0..tests).map(|_| shapes::not_flat(random, |r| r.between(-40, 40))).collect();
     let outer = (0..trainings).map(|_| around(random.between(200, 900))).collect();
     for _ in 0..random.below(3) {

@@ -1,6 +1,7 @@
 //! Counts of what a comparison of lists went through, and what it must have gone through.
 
 use super::coverage::Coverage;
+use super::events::boxes::{alone_at, of_so_many, COUNTS, OWN_BOXES, PLACES, SIDES, TESTED, TRIANGLE_BOXES};
 use super::events::{has_id, Event, LISTS, RECORDINGS, ROOMS, TRIANGLES};
 use super::rooms::Room;
 use super::CLASSES;
@@ -31,6 +32,10 @@ impl Default for Tally {
             tally.add_test("recordings", name, move |c| has_id(c, least, most as u32));
         }
         tally.add_events("triangles", &TRIANGLES);
+        tally.add_events("tested", &TESTED);
+        tally.add_events("recordings' own boxes", &OWN_BOXES);
+        tally.add_events("triangles' boxes", &TRIANGLE_BOXES);
+        tally.add_near();
         ROOMS.iter().for_each(|(name, _)| tally.add("room", name.to_string()));
         tally
     }
@@ -52,6 +57,20 @@ impl Tally {
     fn add_events(&mut self, table: &'static str, events: &'static [Event]) {
         for (name, test) in events {
             self.add_test(table, name.to_string(), move |c| c.accepted() && test(c));
+        }
+    }
+
+    /// Of recordings with a near triangle pair, for tests and trainings apart.
+    fn add_near(&mut self) {
+        for (side, set) in SIDES {
+            for counts in COUNTS {
+                let more = if counts.1 == usize::MAX { " or more" } else { "" };
+                let name = format!("{set}, {}{more} triangles", counts.0);
+                self.add_test("near ones", name, move |c| of_so_many(c, side, counts));
+            }
+            for (name, place) in PLACES {
+                self.add_test("near ones", format!("{set}, {name}"), move |c| alone_at(c, side, place));
+            }
         }
     }
 

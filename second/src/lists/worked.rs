@@ -1,4 +1,7 @@
-//! Files worked by hand, with the lists that the rules give them.
+//! Files worked by hand, with the lists that the rules give them, and how many triangle pairs of theirs are
+//! given to the triangle rules.
+
+mod boxes;
 
 use crate::files::draft::{Draft, Triangle};
 use crate::files::worked::{EXAMPLE, SHORTEST, THREE};
@@ -7,6 +10,7 @@ use crate::footprint::stored::{HELD_BACK, TEST, TRAINING};
 pub struct Worked {
     pub file: Vec<u8>,
     pub list: String,
+    pub tested: u32,
 }
 
 /// The whole list of `EXAMPLE`.
@@ -62,40 +66,41 @@ pub fn file_of(recordings: &[(u32, u8, &[Triangle])]) -> Vec<u8> {
     Draft::of(&ids, &counts, &sets, triangles).bytes()
 }
 
-fn worked(list: &str, file: &[u8]) -> Worked {
-    Worked { file: file.to_vec(), list: list.to_string() }
+fn worked(list: &str, tested: u32, file: &[u8]) -> Worked {
+    Worked { file: file.to_vec(), list: list.to_string(), tested }
 }
 
-fn listed(list: &str, recordings: &[(u32, u8, &[Triangle])]) -> Worked {
-    worked(list, &file_of(recordings))
+fn listed(list: &str, tested: u32, recordings: &[(u32, u8, &[Triangle])]) -> Worked {
+    worked(list, tested, &file_of(recordings))
 }
 
 /// None of them longer than 2,000 bytes, nor any of the lists longer than 1,000.
 pub fn all() -> Vec<Worked> {
     let all = [nothing(), held_back(), in_order(), touching(), both_kinds(), decisions(), numbers()];
-    all.into_iter().flatten().collect()
+    all.into_iter().flatten().chain(boxes::all()).collect()
 }
 
 fn nothing() -> Vec<Worked> {
     vec![
-        worked(NOTHING, &SHORTEST),
-        listed(NOTHING, &[(7, TRAINING, &[V]), (9, TEST, &[U_OF_E])]),
-        listed(NOTHING, &[(7, TRAINING, &[V, U_OF_D])]),
-        listed(NOTHING, &[(7, TEST, &[V]), (9, TEST, &[U_OF_D])]),
-        listed(NOTHING, &[(7, TRAINING, &[V]), (9, TRAINING, &[U_OF_D])]),
+        worked(NOTHING, 0, &SHORTEST),
+        listed(NOTHING, 0, &[(7, TRAINING, &[V]), (9, TEST, &[U_OF_E])]),
+        listed(NOTHING, 0, &[(7, TRAINING, &[V, U_OF_D])]),
+        listed(NOTHING, 0, &[(7, TEST, &[V]), (9, TEST, &[U_OF_D])]),
+        listed(NOTHING, 0, &[(7, TRAINING, &[V]), (9, TRAINING, &[U_OF_D])]),
     ]
 }
 
 fn held_back() -> Vec<Worked> {
     let all = [V, U_OF_A, U_OF_D];
     vec![
-        listed(NOTHING, &[(7, HELD_BACK, &[V]), (9, TEST, &[U_OF_D])]),
-        listed(NOTHING, &[(7, TRAINING, &[V]), (9, HELD_BACK, &[U_OF_D])]),
-        listed(NOTHING, &[(7, HELD_BACK, &[V]), (9, HELD_BACK, &[U_OF_D])]),
-        listed(NOTHING, &[(7, HELD_BACK, &[V]), (9, TEST, &[U_OF_F])]),
-        listed(NOTHING, &[(7, TRAINING, &[V]), (9, HELD_BACK, &[U_OF_F])]),
+        listed(NOTHING, 0, &[(7, HELD_BACK, &[V]), (9, TEST, &[U_OF_D])]),
+        listed(NOTHING, 0, &[(7, TRAINING, &[V]), (9, HELD_BACK, &[U_OF_D])]),
+        listed(NOTHING, 0, &[(7, HELD_BACK, &[V]), (9, HELD_BACK, &[U_OF_D])]),
+        listed(NOTHING, 0, &[(7, HELD_BACK, &[V]), (9, TEST, &[U_OF_F])]),
+        listed(NOTHING, 0, &[(7, TRAINING, &[V]), (9, HELD_BACK, &[U_OF_F])]),
         listed(
             EXAMPLE_LIST,
+            1,
             &[
                 (1, HELD_BACK, &all),
                 (7, TRAINING, &[V]),
@@ -113,9 +118,10 @@ fn in_order() -> Vec<Worked> {
         test 5 train 3 pairs 2\ntest 5 train 1 pairs 2\ntest 2 train 3 pairs 1\ntest 2 train 1 pairs 2\n\
         touching 0\n";
     vec![
-        worked(EXAMPLE_LIST, &EXAMPLE),
+        worked(EXAMPLE_LIST, 1, &EXAMPLE),
         listed(
             two_by_two,
+            7,
             &[
                 (5, TEST, &[U_OF_A, U_OF_D]),
                 (3, TRAINING, &[V]),
@@ -125,6 +131,7 @@ fn in_order() -> Vec<Worked> {
         ),
         listed(
             "leaks 2\ntest 5 train 3 pairs 2\ntest 2 train 8 pairs 1\ntouching 0\n",
+            3,
             &[
                 (5, TEST, &[U_OF_A, U_OF_D]),
                 (2, TEST, &[U_OF_E]),
@@ -150,7 +157,7 @@ fn six_by_six() -> Worked {
         }
     }
     list += "touching 0\n";
-    listed(&list, &recordings)
+    listed(&list, 3 * 6 * 2 + 3 * 6, &recordings)
 }
 
 /// Neighbours, which are no leak, and how they are counted: recordings by pairs, however many triangles
@@ -159,14 +166,15 @@ fn touching() -> Vec<Worked> {
     let neighbours = [U_OF_F, WITHIN_THE_EDGE, BEYOND_THE_EDGE, AT_THE_CORNER];
     let mut all: Vec<Worked> = Vec::new();
     for neighbour in neighbours {
-        all.push(listed(ONE_TOUCHES, &[(0, TEST, &[neighbour]), (1, TRAINING, &[V])]));
-        all.push(listed(ONE_TOUCHES, &[(0, TRAINING, &[neighbour]), (1, TEST, &[V])]));
+        all.push(listed(ONE_TOUCHES, 1, &[(0, TEST, &[neighbour]), (1, TRAINING, &[V])]));
+        all.push(listed(ONE_TOUCHES, 1, &[(0, TRAINING, &[neighbour]), (1, TEST, &[V])]));
     }
     all.extend([
-        listed(ONE_TOUCHES, &[(7, TRAINING, &[V; 3]), (9, TEST, &neighbours)]),
-        listed(ONE_TOUCHES, &[(7, TRAINING, &[AROUND_E, V]), (9, TEST, &[PAST_THE_CORNER, U_OF_F])]),
+        listed(ONE_TOUCHES, 12, &[(7, TRAINING, &[V; 3]), (9, TEST, &neighbours)]),
+        listed(ONE_TOUCHES, 2, &[(7, TRAINING, &[AROUND_E, V]), (9, TEST, &[PAST_THE_CORNER, U_OF_F])]),
         listed(
             "leaks 0\ntouching 2\n",
+            2,
             &[
                 (7, TRAINING, &[V]),
                 (8, TRAINING, &[AROUND_E]),
@@ -183,6 +191,7 @@ fn touching() -> Vec<Worked> {
 fn four_by_three() -> Worked {
     listed(
         "leaks 0\ntouching 12\n",
+        5 * 4,
         &[
             (1, TEST, &[U_OF_F]),
             (2, TRAINING, &[V]),
@@ -203,6 +212,7 @@ fn both_kinds() -> Vec<Worked> {
         // One test recording overlaps a training recording and only touches two others.
         listed(
             "leaks 1\ntest 9 train 7 pairs 1\ntouching 2\n",
+            3,
             &[
                 (9, TEST, &[U_OF_D]),
                 (7, TRAINING, &[V]),
@@ -210,11 +220,12 @@ fn both_kinds() -> Vec<Worked> {
                 (5, TRAINING, &[BESIDE_D]),
             ],
         ),
-        listed(EXAMPLE_LIST, &[(7, TRAINING, &[V]), (9, TEST, &[U_OF_F, U_OF_D])]),
-        listed(EXAMPLE_LIST, &[(7, TRAINING, &[V]), (9, TEST, &[U_OF_D, U_OF_F])]),
-        listed(EXAMPLE_LIST, &[(9, TEST, &[AT_THE_CORNER, U_OF_E, U_OF_F, U_OF_A]), (7, TRAINING, &[V])]),
+        listed(EXAMPLE_LIST, 2, &[(7, TRAINING, &[V]), (9, TEST, &[U_OF_F, U_OF_D])]),
+        listed(EXAMPLE_LIST, 2, &[(7, TRAINING, &[V]), (9, TEST, &[U_OF_D, U_OF_F])]),
+        listed(EXAMPLE_LIST, 3, &[(9, TEST, &[AT_THE_CORNER, U_OF_E, U_OF_F, U_OF_A]), (7, TRAINING, &[V])]),
         listed(
             "leaks 2\ntest 9 train 7 pairs 1\ntest 3 train 8 pairs 1\ntouching 2\n",
+            5,
             &[
                 (5, TEST, &[U_OF_F]),
                 (7, TRAINING, &[V]),
@@ -229,12 +240,12 @@ fn both_kinds() -> Vec<Worked> {
 /// What is computed decides, and so does which of the two is U.
 fn decisions() -> Vec<Worked> {
     vec![
-        listed(NOTHING, &[(7, TRAINING, &[V]), (9, TEST, &[PAST_THE_CORNER])]),
-        listed(ONE_TOUCHES, &[(7, TEST, &[V]), (9, TRAINING, &[PAST_THE_CORNER])]),
-        listed(NOTHING, &[(7, TRAINING, &[PASSED]), (9, TEST, &[PASSING])]),
-        listed(ONE_TOUCHES, &[(7, TEST, &[PASSED]), (9, TRAINING, &[PASSING])]),
-        listed(EXAMPLE_LIST, &[(7, TRAINING, &[SHORTER]), (9, TEST, &[LONGER])]),
-        listed(ONE_TOUCHES, &[(7, TEST, &[SHORTER]), (9, TRAINING, &[LONGER])]),
+        listed(NOTHING, 1, &[(7, TRAINING, &[V]), (9, TEST, &[PAST_THE_CORNER])]),
+        listed(ONE_TOUCHES, 1, &[(7, TEST, &[V]), (9, TRAINING, &[PAST_THE_CORNER])]),
+        listed(NOTHING, 1, &[(7, TRAINING, &[PASSED]), (9, TEST, &[PASSING])]),
+        listed(ONE_TOUCHES, 1, &[(7, TEST, &[PASSED]), (9, TRAINING, &[PASSING])]),
+        listed(EXAMPLE_LIST, 1, &[(7, TRAINING, &[SHORTER]), (9, TEST, &[LONGER])]),
+        listed(ONE_TOUCHES, 1, &[(7, TEST, &[SHORTER]), (9, TRAINING, &[LONGER])]),
     ]
 }
 
@@ -242,17 +253,20 @@ fn numbers() -> Vec<Worked> {
     vec![
         listed(
             "leaks 1\ntest 4294967295 train 4294967294 pairs 1\ntouching 0\n",
+            1,
             &[(u32::MAX, TEST, &[U_OF_A]), (u32::MAX - 1, TRAINING, &[V])],
         ),
         listed(
             "leaks 1\ntest 0 train 1 pairs 12\ntouching 0\n",
+            12,
             &[(1, TRAINING, &[V; 4]), (0, TEST, &[U_OF_D; 3])],
         ),
         listed(
             "leaks 1\ntest 2147483648 train 2147483647 pairs 100\ntouching 0\n",
+            100,
             &[(1 << 31, TEST, &[U_OF_A; 4]), ((1 << 31) - 1, TRAINING, &[V; 25])],
         ),
         // A thin triangle along the diagonal, from corner to corner of the range.
-        worked("leaks 1\ntest 5 train 4294967295 pairs 2\ntouching 0\n", &THREE),
+        worked("leaks 1\ntest 5 train 4294967295 pairs 2\ntouching 0\n", 2, &THREE),
     ]
 }

@@ -1,11 +1,8 @@
--- All triangles are prepared, all is gathered, and the list of it is written.
-use Prim.Native.Nat.{_-_}
-use borrow.Author.Needs.{needs}
+-- All triangles are prepared.
 use denote.Ref.{now}
-use mathlib.Core.Path.{_∙_}
 use native.Mathlib.Omega.{arith}
-use Rattle.leaklist.proofs.Gathered.{table-read, count-read, triangles-read, few-triangles, ready, gathered}
-use Rattle.leaklist.proofs.Written.{keeps}
+use Rattle.leaklist.proofs.Gathered.{table-read, count-read, triangles-read, few-triangles}
+use borrow.Author.Needs.{needs}
 use Rattle.leaklist.proofs.listed.Statement.{statement}
 use Rattle.leaklist.proofs.listed.Tie as tie
 
@@ -35,39 +32,23 @@ slice-aggregate-prepare c = search needs
 
 prepare-requires : tie.Need-prepare-requires
 prepare-requires c κs = let g = c .before .before .before .before .before .before .args in
-    let p = c .before .before .before .before .before .before .pre in
-    let few = few-triangles (now (g .file)) p in
+    let few = few-triangles (now (g .file)) (c .before .before .before .before .before .before .pre) in
     let t = triangles-read (now (g .file)) (table-read (now (g .file)) (c .before .before .before .u32-at .ensures)) in
     (omega (arith, few, t), omega (arith, few, t, c .before .no-shapes .ensures))
 
-no-leaks-requires : tie.Need-no-leaks-requires
-no-leaks-requires c κs = search needs
+slice-aggregate-from-triangles : tie.Need-slice-aggregate-from-triangles
+slice-aggregate-from-triangles c = search needs
 
-slice-aggregate-gather : tie.Need-slice-aggregate-gather
-slice-aggregate-gather c = search needs
-
-slice-aggregate-gather-2 : tie.Need-slice-aggregate-gather-2
-slice-aggregate-gather-2 c = search needs
-
-gather-requires : tie.Need-gather-requires
-gather-requires c κs = let g = c .before .before .before .before .before .before .before .before .before .before .before .args in
-    let p = c .before .before .before .before .before .before .before .before .before .before .before .pre in
-    let a = table-read (now (g .file)) (c .before .before .before .before .before .before .before .before .u32-at .ensures) in
-    (ready (now (g .file)) _ p (search needs) (triangles-read (now (g .file)) a) (c .before .before .before .before .prepare .ensures), a, count-read (now (g .file)) (c .before .before .before .before .before .before .before .u32-at2 .ensures), search needs)
-
-slice-aggregate-write : tie.Need-slice-aggregate-write
-slice-aggregate-write c = search needs
-
-write-requires : tie.Need-write-requires
-write-requires c κs = search needs
+from-triangles-requires : tie.Need-from-triangles-requires
+from-triangles-requires c κs = let g = c .before .before .before .before .before .before .before .before .before .before .args in
+    let a = table-read (now (g .file)) (c .before .before .before .before .before .before .before .u32-at .ensures) in
+    (c .before .before .before .before .before .before .before .before .before .before .pre, search needs, c .before .before .before .prepare .ensures, a, count-read (now (g .file)) (c .before .before .before .before .before .before .u32-at2 .ensures))
 
 same-length : tie.Need-same-length
 same-length c = search needs
 
 returns : tie.Need-returns
-returns c = let g = c .before .before .before .before .before .before .before .before .before .before .before .before .before .before .before .before .before .before .args in
-    let k = c .before .before .before .before .before .before .gather .ensures in
-    keeps (now (g .file)) (now (g .room)) _ _ (c .before .before .before .before .before .before .before .before .before .before .before .before .before .before .before .before .before .before .pre) (k .0 ∙ gathered (now (g .file))) (c .before .before .write .ensures) (k .1) (search needs)
+returns c = search needs
 
 pub listed-spec : {M : Type 1} → statement M
 listed-spec =
@@ -82,11 +63,7 @@ listed-spec =
     no-shapes-requires
     slice-aggregate-prepare
     prepare-requires
-    no-leaks-requires
-    slice-aggregate-gather
-    slice-aggregate-gather-2
-    gather-requires
-    slice-aggregate-write
-    write-requires
+    slice-aggregate-from-triangles
+    from-triangles-requires
     same-length
     returns)

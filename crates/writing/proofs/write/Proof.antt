@@ -4,7 +4,7 @@ use denote.Ref.{now}
 use mathlib.Core.Path.{sym, ap, _∙_}
 use Rattle.listing.specs.Words.{textOf}
 use Rattle.text.proofs.Room.{put-as}
-use Rattle.writing.specs.Triples.{leaksIn, heldIn}
+use Rattle.writing.specs.Triples.{leaksIn, heldIn, besideIn}
 use Rattle.writing.proofs.Lines.{how-many}
 use Rattle.writing.proofs.Written.{held-is, written-not, written-all}
 use Rattle.writing.proofs.write.Statement.{statement}
@@ -34,7 +34,7 @@ returns c = let b = c .before .before .before .before in
     let g = held .before .before .before .before .before .args in
     let n = held-is (now (g .found)) (g .c .leaks) (held .before .lesser .ensures .0) (held .lesser2 .ensures .0) in
     let put = put-as (ap (λ m. textOf (leaksIn (now (g .found)) m) (g .c .touching)) n) (b .put-list .ensures) in
-    written-not (leaksIn (now (g .found)) (heldIn (now (g .found)) (g .c .leaks))) (g .c .touching) (now (g .room)) put (c .before .if1 .taken) (c .no-list .ensures)
+    written-not (leaksIn (now (g .found)) (heldIn (now (g .found)) (g .c .leaks))) (besideIn (g .c)) (now (g .room)) put (c .before .if1 .taken) (c .no-list .ensures)
 
 cast-t13 : tie.Need-cast-t13
 cast-t13 c = search needs
@@ -48,7 +48,7 @@ returns-2 c = let b = c .before .before .before in
     let g = held .before .before .before .before .before .args in
     let n = held-is (now (g .found)) (g .c .leaks) (held .before .lesser .ensures .0) (held .lesser2 .ensures .0) in
     let put = put-as (ap (λ m. textOf (leaksIn (now (g .found)) m) (g .c .touching)) n) (b .put-list .ensures) in
-    written-all (leaksIn (now (g .found)) (heldIn (now (g .found)) (g .c .leaks))) (g .c .touching) (now (g .room)) put (c .if1 .left) (n ∙ sym (how-many (now (g .found)) (heldIn (now (g .found)) (g .c .leaks))))
+    written-all (leaksIn (now (g .found)) (heldIn (now (g .found)) (g .c .leaks))) (besideIn (g .c)) (now (g .room)) put (c .if1 .left) (n ∙ sym (how-many (now (g .found)) (heldIn (now (g .found)) (g .c .leaks))))
 
 pub write-spec : {M : Type 1} → statement M
 write-spec =

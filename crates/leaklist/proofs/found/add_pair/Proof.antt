@@ -1,94 +1,46 @@
--- Only with a training recording is anything found, and what is found is by what is counted.
-use Prim.Native.Nat.{_-_}
-use borrow.Author.Needs.{needs}
+-- Where the own boxes share no point nothing is found.
 use denote.Ref.{now}
-use mathlib.Core.Path.{refl, ap, _∙_}
+use mathlib.Core.Path.{sym, ap₂, _∙_}
 use native.Mathlib.Omega.{arith}
-use Rattle.floats.specs.Lists.{once}
-use Rattle.leaklist.proofs.Gathered.{entry-is, no-item, an-item, pair-added, with-nothing, tally-fits, count-by}
-use Rattle.leaklist.specs.Code.{foundIn, together}
+use Rattle.boxes.specs.Boxes.{sharePoint}
+use Rattle.leaklist.proofs.Gathered.{far-none, empty-item, with-nothing}
+use Rattle.leaklist.specs.Code.{foundIn}
+use borrow.Author.Needs.{needs}
 use Rattle.leaklist.proofs.found.add_pair.Statement.{statement}
 use Rattle.leaklist.proofs.found.add_pair.Tie as tie
 
-mul-entry-at : tie.Need-mul-entry-at
-mul-entry-at c = search needs
+box-at-requires : tie.Need-box-at-requires
+box-at-requires c κs = search needs
 
-add-entry-at : tie.Need-add-entry-at
-add-entry-at c = search needs
+box-at-requires-2 : tie.Need-box-at-requires-2
+box-at-requires-2 c κs = search needs
 
-entry-at-requires : tie.Need-entry-at-requires
-entry-at-requires c κs = search needs
+share-point-requires : tie.Need-share-point-requires
+share-point-requires c κs = search needs
 
-returns : tie.Need-returns
-returns c = let b = c .before .before in
-    let g = b .before .before .before .before .args in
-    let p = b .before .before .before .before .pre in
-    (with-nothing (foundIn (now (g .found)) (g .c)) (no-item (now (g .file)) (g .i) (g .j) (entry-is (now (g .file)) (g .j) (g .at) (p .3) (b .entry-at .ensures .0)) (c .if1 .taken)), omega arith, omega arith)
-
-cast-tally : tie.Need-cast-tally
-cast-tally c = search needs
-
-cast-tally-2 : tie.Need-cast-tally-2
-cast-tally-2 c = search needs
-
-cast-tally-3 : tie.Need-cast-tally-3
-cast-tally-3 c = search needs
-
-cast-tally-4 : tie.Need-cast-tally-4
-cast-tally-4 c = search needs
-
-tally-requires : tie.Need-tally-requires
-tally-requires c κs = let b = c .before .before .before .before .before .before in
-    let g = b .before .before .before .before .args in
-    let p = b .before .before .before .before .pre in
-    tally-fits (now (g .file)) (now (g .table)) (p .0) (g .i) (g .j) (p .1) (p .4) (p .2) (entry-is (now (g .file)) (g .j) (g .at) (p .3) (b .entry-at .ensures .0))
-
-only-touch-requires : tie.Need-only-touch-requires
-only-touch-requires c κs = search needs
-
-one-if-requires : tie.Need-one-if-requires
-one-if-requires c κs = search needs
-
-add-touching : tie.Need-add-touching
-add-touching c = search needs
-
-add-requires : tie.Need-add-requires
-add-requires c κs = search needs
+add-near-requires : tie.Need-add-near-requires
+add-near-requires c κs = search needs
 
 same-length : tie.Need-same-length
 same-length c = search needs
 
+returns : tie.Need-returns
+returns c = search needs
+
 returns-2 : tie.Need-returns-2
-returns-2 c = let added = c .before .before .add .ensures in
-    let more = c .before .before .before .before .before in
-    let t = more .before .before in
-    let read = t .before .before .before .before .before .before .before in
-    let g = read .before .before .before .before .args in
-    let p = read .before .before .before .before .pre in
-    let f = entry-is (now (g .file)) (g .j) (g .at) (p .3) (read .entry-at .ensures .0) in
-    let one = more .one-if .ensures in (
-      pair-added (foundIn (now (g .found)) (g .c)) (g .e .id) (read .entry-at .result .id) (t .tally .result) (added .0) (one .0 ∙ ap once (more .before .only-touch .ensures)) refl
-          ∙ ap (together (foundIn (now (g .found)) (g .c))) (an-item (now (g .file)) (g .i) (g .j) (p .2) f (t .before .before .before .before .before .if1 .left) (count-by (now (g .file)) (now (g .table)) (p .0) (g .i) (g .j) (p .1) (p .4) (p .2) f (t .tally .ensures))),
-      added .1,
-      omega (arith, one .1),
-    )
+returns-2 c = let g = c .before .before .before .before .before .before .before .before .before .args in
+    let p = c .before .before .before .before .before .before .before .before .before .pre in
+    let none = far-none (now (g .file)) (now (g .table)) (now (g .bounds)) (now (g .own)) (p .0) (g .i) (g .j) (p .1) (p .4) (sym (c .before .share-point .ensures ∙ ap₂ sharePoint (c .before .before .box-at2 .ensures) (c .before .before .before .box-at .ensures)) ∙ c .if1 .left) in
+    (with-nothing (foundIn (now (g .found)) (g .c)) (empty-item (now (g .file)) (g .i) (g .j) none), omega arith, omega arith)
 
 pub add-pair-spec : {M : Type 1} → statement M
 add-pair-spec =
     tie.close
     (tie.spec
-    mul-entry-at
-    add-entry-at
-    entry-at-requires
-    returns
-    cast-tally
-    cast-tally-2
-    cast-tally-3
-    cast-tally-4
-    tally-requires
-    only-touch-requires
-    one-if-requires
-    add-touching
-    add-requires
+    box-at-requires
+    box-at-requires-2
+    share-point-requires
+    add-near-requires
     same-length
+    returns
     returns-2)

@@ -1,11 +1,11 @@
--- The steps of the code are those of `decisionBy`.
+-- The steps of the code are those of `rulesBy`.
 use native.Mathlib.Omega.{arith}
 use mathlib.Core.Path.{refl}
 use lib.Ieee.{ofBits}
 use Rattle.routine.proofs.Decisions.{decides-apart, decides-by}
 use borrow.Author.Needs.{needs}
-use Rattle.routine.proofs.decision_of.Statement.{statement}
-use Rattle.routine.proofs.decision_of.Tie as tie
+use Rattle.routine.proofs.by_rules.Statement.{statement}
+use Rattle.routine.proofs.by_rules.Tie as tie
 
 params-by-requires : tie.Need-params-by-requires
 params-by-requires c κs = search needs
@@ -56,8 +56,8 @@ returns-2 c =
     let g = b10 .args in
     decides-by (g .u) (g .v) (b9 .params-by .ensures) (b8 .params-by2 .ensures) (b7 .params-by3 .ensures) (b6 .beyond .ensures) (b5 .if1 .left) (b2 .settled .ensures) (c .decision-from .ensures)
 
-pub decision-of-spec : {M : Type 1} → statement M
-decision-of-spec =
+pub by-rules-spec : {M : Type 1} → statement M
+by-rules-spec =
     tie.close
     (tie.spec
     params-by-requires
