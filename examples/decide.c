@@ -1,5 +1,6 @@
-/* Whether two triangles overlap, touch or are apart, and two calls that are refused. */
+/* Whether two triangles overlap, touch or are apart, and three calls that are refused. */
 #include <inttypes.h>
+#include <math.h>
 #include <stddef.h>
 #include <stdio.h>
 
@@ -27,7 +28,10 @@ int main(void)
         {"a part of an edge, and rounding", {458, -958, -13747, -4524, -1189, -975, -6479, -2470, -805, -156, -12827, -4264}},
         {"the same over kilometres", {-479034, -984927, 928980, 761325, 297023, -618278, 463938, 184569, -488700, -996915, -446798, 529646}},
         {"a corner on an edge, a tie", {0, -1, -1, 0, 0, 3, 4, 1, 2, -1, 0, 1}},
+        {"beyond a needle's tip, where rounding finds a ring", {327628, 2, -335623, 719289, -969092, 2, -778994, -314945, -940499, -380241, 0, 0}},
         {"a flat V", {1, 1, 2, 1, 1, 2, 0, 0, 1, 1, 2, 2}}, /* MESKELOW_REFUSED_FLAT_V */
+        {"a flat V far away", {11, 11, 12, 11, 11, 12, 0, 0, 1, 1, 2, 2}},
+        {"a position that is no number, far away", {11, 11, 12, 11, 11, NAN, 0, 0, 4, 0, 0, 4}}, /* MESKELOW_REFUSED_NOT_FINITE */
     };
     for (size_t i = 0; i < sizeof pairs / sizeof pairs[0]; i++)
         show(pairs[i].what, meskelow_decide(pairs[i].values, MESKELOW_VALUES));

@@ -1,4 +1,4 @@
-/* The leak list of a footprint file, and on standard error its two numbers. Exit status: 0 no leaks, though strips may touch, 1 leaks,
+/* The leak list of a footprint file, and on standard error its numbers. Exit status: 0 no leaks, though strips may touch, 1 leaks,
  * 2 the file is refused, 3 it could not be read or the list not be written. */
 #include <inttypes.h>
 #include <stdio.h>
@@ -28,6 +28,6 @@ int main(int argc, char **argv)
     }
     if (list.number != 0)
         return 2;
-    fprintf(stderr, "%" PRIu32 " overlap, %" PRIu32 " only touch\n", list.leaks, list.touching);
+    fprintf(stderr, "%" PRIu32 " overlap, %" PRIu32 " only touch; %" PRIu32 " triangle pairs tested\n", list.leaks, list.touching, list.tested);
     return list.leaks != 0;
 }

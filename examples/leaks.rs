@@ -1,4 +1,4 @@
-//! The leak list of a footprint file, and on standard error its two numbers. Exit status: 0 no leaks, though strips may touch, 1 leaks,
+//! The leak list of a footprint file, and on standard error its numbers. Exit status: 0 no leaks, though strips may touch, 1 leaks,
 //! 2 the file is refused, 3 it could not be read or the list not be written.
 
 use std::io::{self, Read, Write};
@@ -12,6 +12,7 @@ struct List {
     length: usize,
     leaks: u32,
     touching: u32,
+    tested: u32,
 }
 
 extern "C" {
@@ -37,7 +38,7 @@ fn run() -> io::Result<i32> {
     if list.number != 0 {
         return Ok(2);
     }
-    eprintln!("{} overlap, {} only touch", list.leaks, list.touching);
+    eprintln!("{} overlap, {} only touch; {} triangle pairs tested", list.leaks, list.touching, list.tested);
     Ok(i32::from(list.leaks > 0))
 }
 

@@ -3,7 +3,7 @@
  *
  * Link target/staticlib/libmeskelow.a, which `rt staticlib meskelow` makes: x86-64 Linux code that calls nothing but the C
  * library's memcpy and memset, allocates nothing, keeps no state and may be called from any number of threads at once. meskelow_leaks
- * needs 300 KB of stack, the others a few KB.
+ * needs 400 KB of stack, the others a few KB.
  *
  * What is proved (docs/PROMISES.md names each theorem): whatever numbers, bytes and lengths are passed, every call ends and
  * returns exactly the answer of the rules, in every bit of every field and of the room; nothing is read or written outside the
@@ -62,23 +62,28 @@ typedef struct {
 meskelow_answer meskelow_intersect(const double *values, size_t values_len, double *room, size_t room_len);
 
 enum { /* the kinds of triangle pairs */
-    MESKELOW_APART = 0,      /* there is no ring */
-    MESKELOW_TOUCHING = 1,   /* there is a ring, and its computed area is zero */
-    MESKELOW_OVERLAPPING = 2 /* there is a ring, and its computed area is above zero */
+    MESKELOW_APART = 0,      /* their boxes share no point, or there is no ring */
+    MESKELOW_TOUCHING = 1,   /* the boxes share a point, there is a ring, and its computed area is zero */
+    MESKELOW_OVERLAPPING = 2 /* the boxes share a point, there is a ring, and its computed area is above zero */
 };
 
 typedef struct {
     uint32_t number;   /* 0: an answer. Else one of the refusals above, and both other fields are zero. Look here first: beside a
                         * refusal kind 0 does not say MESKELOW_APART, and in the leak list a refused pair counts as overlapping */
     uint32_t kind;     /* of an answer, MESKELOW_APART, MESKELOW_TOUCHING or MESKELOW_OVERLAPPING */
-    double area;       /* of an answer, the area that meskelow_intersect computes, bit for bit: above zero if the two overlap, else
+    double area;       /* of an answer, above zero if the two overlap, and then what meskelow_intersect computes, bit for bit; else
                         * 0.0. It is rounded: triangles that truly share no more than a part of an edge may overlap by a tiny
                         * area, and triangles that truly touch may be apart (README.md, "Neighbours") */
 } meskelow_decision;
 
 /* Whether U and V overlap, touch or are apart, which is what the leak list asks of each triangle pair. values are those of
- * meskelow_intersect. No room is lent, and what is refused is exactly what meskelow_intersect refuses with a room of
- * MESKELOW_CORNER_ROOM: 1 for any other number of values than twelve, and 4 also for the corners' positions and the area. */
+ * meskelow_intersect. No room is lent.
+ *
+ * First come refusals 1, for any other number of values than twelve, and 2. Then the upright boxes around U and V are compared:
+ * where they share no point, so that on one axis every coordinate of the one is below every coordinate of the other, the two are
+ * apart, whatever the triangle rules would say of them, also if one is flat or would overflow. Boxes are closed: an edge or a
+ * corner in common is a point. All others are given to the triangle rules, and refused exactly where meskelow_intersect refuses
+ * them with a room of MESKELOW_CORNER_ROOM, 4 also for the corners' positions and the area. meskelow_intersect looks at no box. */
 meskelow_decision meskelow_decide(const double *values, size_t values_len);
 
 /* Footprint files: README.md has the format. A file is lent whole, as the bytes that it has. Reading it from a disk or writing it
@@ -194,6 +199,9 @@ typedef struct {
     size_t length;     /* of an answer, the list's bytes, at the front of the room; no NUL stands behind them */
     uint32_t leaks;    /* how many leak lines it has: 0 says that no test recording overlaps a training recording, */
     uint32_t touching; /* and the number of its closing line: how many pairs of a test and a training recording only touch */
+    uint32_t tested;   /* how many triangle pairs of test and training recordings were given to the triangle rules: those whose
+                        * boxes share a point, no more and no fewer. It is no part of the list's text. (Since this field the
+                        * struct has 32 bytes, where it had 24: what was compiled with an older header has to be compiled again) */
 } meskelow_list;
 
 /* The leak list of the file: `leaks K`; then for each test recording and training recording with a triangle pair that overlaps, in

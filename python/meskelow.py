@@ -12,7 +12,7 @@
     found = meskelow.leaks(file)
     for leak in found.leaks:
         print(leak.test, leak.train, leak.pairs)
-    print(found.touching, "pairs of recordings only touch")
+    print(found.touching, "pairs of recordings only touch;", found.tested, "pairs of triangles had boxes that meet")
 
     kept = [r for r in meskelow.recordings(file) if r.set != meskelow.HELD_BACK]
     with open("kept.footprint", "wb") as stream:
@@ -25,7 +25,7 @@ The library has to be made first, and again whenever the static library has chan
 
     rt staticlib meskelow && python3 python/meskelow.py build
 
-It is x86-64 Linux code, for a Python of that kind. Any number of threads may call it at once. `leaks` needs 300 KB of stack: a
+It is x86-64 Linux code, for a Python of that kind. Any number of threads may call it at once. `leaks` needs 400 KB of stack: a
 thread has that, unless `threading.stack_size` or the system gave it less than 512 KB.
 
 A triangle is three vertices with two coordinates each, in lists, tuples or arrays such as numpy's. A coordinate is whatever Python
@@ -160,12 +160,13 @@ class Leak(NamedTuple):
 
 
 class LeakList(NamedTuple):
-    """The leaks of a file in the list's order, the list itself, and the number of its closing line. More may come behind these: take
-    them by their names."""
+    """The leaks of a file in the list's order, the list itself, the number of its closing line, and how many pairs of triangles were
+    given to the triangle rules, which the text does not say. More may come behind these: take them by their names."""
 
     leaks: Tuple[Leak, ...]
     text: str
     touching: int  # how many pairs of a test and a training recording touch and do not overlap
+    tested: int  # how many triangle pairs of test and training recordings have boxes that share a point
 
 
 def intersect(u: Triangle, v: Triangle) -> Answer:
@@ -181,7 +182,9 @@ def intersect(u: Triangle, v: Triangle) -> Answer:
 
 def decide(u: Triangle, v: Triangle) -> Decision:
     """Whether U and V overlap, touch or are apart. This is what the leak list asks of each triangle pair, U being the test
-    recording's. Raises `Refused` exactly where `intersect` does; in the list such a pair would count as overlapping."""
+    recording's. Where the upright boxes around the two share no point they are apart, also if one is flat or `intersect` would find
+    a ring by rounding. Raises `Refused` where `intersect` does, 1 and 2 always and 3 to 5 where the boxes share a point; in the list
+    such a pair would count as overlapping."""
     values = _values(u, v)
     got = _library().meskelow_decide(values, 12)
     _raise_if_refused(got.number)
@@ -255,7 +258,7 @@ def write(recordings: Iterable[Draft]) -> bytes:
 
 
 def leaks(file: Bytes) -> LeakList:
-    """The file's leak list. Raises `Refused`, 11 to 18. A thread needs 300 KB of stack for it (`threading.stack_size`)."""
+    """The file's leak list. Raises `Refused`, 11 to 18. A thread needs 400 KB of stack for it (`threading.stack_size`)."""
     lent = _lent(file)
     room = ctypes.create_string_buffer(65536)
     got = _library().meskelow_leaks(lent, len(lent), room, len(room))
@@ -265,7 +268,7 @@ def leaks(file: Bytes) -> LeakList:
     lines = "".join(f"test {leak.test} train {leak.train} pairs {leak.pairs}\n" for leak in found)
     if text != f"leaks {got.leaks}\n{lines}touching {got.touching}\n" or len(found) != got.leaks:
         raise LibraryError("the library writes other lists than this module reads; are both of one version?")
-    return LeakList(found, text, got.touching)
+    return LeakList(found, text, got.touching, got.tested)
 
 
 def build() -> None:
@@ -322,6 +325,7 @@ class _List(ctypes.Structure):
         ("length", ctypes.c_size_t),
         ("leaks", ctypes.c_uint32),
         ("touching", ctypes.c_uint32),
+        ("tested", ctypes.c_uint32),
     ]
 
 

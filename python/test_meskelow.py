@@ -30,6 +30,9 @@ A = [(1, 1), (2, 1), (1, 2)]
 D = [(1, 1), (-3, 1), (1, -3)]
 F = [(0, 0), (4, 0), (0, -4)]
 
+# Every y of the second is below every y of the first; by rounding they have a ring, with an area of 2^-33.
+BEYOND = [(327628, 2), (-335623, 719289), (-969092, 2)], [(-778994, -314945), (-940499, -380241), (0, 0)]
+
 # 84 bytes: training recording 7 has V, test recording 9 has D's U.
 LEAK = bytes.fromhex(
     "00000000 00000000 04000000 00000000 00000000 04000000"
@@ -253,6 +256,26 @@ class Decisions(Case):
         self.decides(*corner_on_an_edge, Kind.APART, 0)
         self.decides(*reversed(corner_on_an_edge), Kind.TOUCHING, 0)
 
+    def test_boxes(self):
+        """Boxes that share no point leave a pair apart, whatever the triangle rules say; an edge or a corner is a point."""
+        for u, v in [BEYOND, ([(4, 591250), (1, -164391), (500204, -582337)], [(0, 0), (-933757, -541494), (-973496, -564539)])]:
+            self.assertNotEqual(meskelow.intersect(u, v).ring, ())
+            self.assertEqual(meskelow.decide(u, v), (Kind.APART, 0))
+        huge = [(0, 0), (1e300, 0), (0, 1e300)]
+        for across, up, number in [(5, 0, None), (-3, 0, None), (0, 5, None), (0, -3, None), (4, 0, 5), (-2, 0, 5), (0, 4, 5), (0, -2, 5), (4, 4, 5)]:
+            flat = [(across + i, up + i) for i in range(3)]
+            with self.subTest(flat=flat):
+                if number is None:
+                    self.assertEqual(meskelow.decide(flat, V), (Kind.APART, 0))
+                else:
+                    with self.refused(number, 0):
+                        meskelow.decide(flat, V)
+        self.assertEqual(meskelow.decide([(-2, -3), (-1, -3), (-2, -1)], huge), (Kind.APART, 0))
+        self.assertEqual(meskelow.decide(huge, [(-2, -3), (-1, -3), (-2, -1)]), (Kind.APART, 0))
+        for value in (math.nan, math.inf, -math.inf):
+            with self.subTest(value=value), self.refused(2, 0):
+                meskelow.decide([(10, 10), (14, 10), (10, value)], V)
+
     def test_shapes(self):
         four = V + [(1, 1)]
         for u, v in [(V[:2], four), (four, V[:2]), (V[:2], V), (V, []), (V, [(0, 0), (4, 0, 0), (4,)])]:
@@ -351,23 +374,37 @@ class Files(Case):
 
     def test_leaks(self):
         got = meskelow.leaks(LEAK)
-        self.assertEqual(got, (((9, 7, 1),), LIST, 0))
+        self.assertEqual(got, (((9, 7, 1),), LIST, 0, 1))
         self.assertEqual((got.leaks[0].test, got.leaks[0].train, got.leaks[0].pairs), (9, 7, 1))
-        self.assertEqual((got.text, got.touching), (LIST, 0))
+        self.assertEqual((got.text, got.touching, got.tested), (LIST, 0, 1))
 
     def test_touching(self):
         """Each two recordings count once, however many of their triangles touch, and not if any overlap."""
         train, test, held_back = meskelow.TRAINING, meskelow.TEST, meskelow.HELD_BACK
         for recordings, expected in [
-            ([(7, train, [V]), (9, test, [F])], ((), "leaks 0\ntouching 1\n", 1)),
-            ([(7, train, [V, V]), (9, test, [F, F])], ((), "leaks 0\ntouching 1\n", 1)),
-            ([(7, train, [V]), (9, test, [F, D])], (((9, 7, 1),), LIST, 0)),
-            ([(7, train, [V]), (9, test, [D, F, F])], (((9, 7, 1),), LIST, 0)),
-            ([(7, train, [V]), (9, test, [F]), (3, train, [V])], ((), "leaks 0\ntouching 2\n", 2)),
-            ([(7, train, [V]), (9, test, [F]), (3, test, [D])], (((3, 7, 1),), "leaks 1\ntest 3 train 7 pairs 1\ntouching 1\n", 1)),
-            ([(7, train, [V]), (9, held_back, [F])], ((), NO_LEAKS, 0)),
-            ([(7, held_back, [V]), (9, test, [F])], ((), NO_LEAKS, 0)),
-            ([(7, train, [V]), (9, train, [F])], ((), NO_LEAKS, 0)),
+            ([(7, train, [V]), (9, test, [F])], ((), "leaks 0\ntouching 1\n", 1, 1)),
+            ([(7, train, [V, V]), (9, test, [F, F])], ((), "leaks 0\ntouching 1\n", 1, 4)),
+            ([(7, train, [V]), (9, test, [F, D])], (((9, 7, 1),), LIST, 0, 2)),
+            ([(7, train, [V]), (9, test, [D, F, F])], (((9, 7, 1),), LIST, 0, 3)),
+            ([(7, train, [V]), (9, test, [F]), (3, train, [V])], ((), "leaks 0\ntouching 2\n", 2, 2)),
+            ([(7, train, [V]), (9, test, [F]), (3, test, [D])], (((3, 7, 1),), "leaks 1\ntest 3 train 7 pairs 1\ntouching 1\n", 1, 2)),
+            ([(7, train, [V]), (9, held_back, [F])], ((), NO_LEAKS, 0, 0)),
+            ([(7, held_back, [V]), (9, test, [F])], ((), NO_LEAKS, 0, 0)),
+            ([(7, train, [V]), (9, train, [F])], ((), NO_LEAKS, 0, 0)),
+        ]:
+            with self.subTest(recordings=recordings):
+                self.assertEqual(meskelow.leaks(footprint(*recordings)), expected)
+
+    def test_tested(self):
+        """Pairs whose boxes share a point, of test and training recordings: each, also once a pair leaks, and no other."""
+        train, test, held_back = meskelow.TRAINING, meskelow.TEST, meskelow.HELD_BACK
+        corner, aside = [(4, 4), (8, 4), (8, 8)], [(5, 0), (9, 0), (9, 4)]
+        for recordings, expected in [
+            ([(7, train, [V]), (9, test, [corner])], ((), NO_LEAKS, 0, 1)),
+            ([(7, train, [V]), (9, test, [aside])], ((), NO_LEAKS, 0, 0)),
+            ([(7, train, [V, V, V]), (9, test, [aside, corner, D, D])], (((9, 7, 6),), "leaks 1\ntest 9 train 7 pairs 6\ntouching 0\n", 0, 9)),
+            ([(7, train, [V]), (9, test, [D]), (5, held_back, [V, D])], (((9, 7, 1),), LIST, 0, 1)),
+            ([(7, train, [BEYOND[1]]), (9, test, [BEYOND[0]])], ((), NO_LEAKS, 0, 0)),
         ]:
             with self.subTest(recordings=recordings):
                 self.assertEqual(meskelow.leaks(footprint(*recordings)), expected)
@@ -375,20 +412,20 @@ class Files(Case):
     def test_neighbours(self):
         """Two strips one behind the other, of which one is a test recording."""
         got = meskelow.leaks((EXAMPLES / "neighbours.footprint").read_bytes())
-        self.assertEqual(got, ((), "leaks 0\ntouching 1\n", 1))
+        self.assertEqual(got, ((), "leaks 0\ntouching 1\n", 1, 3))
 
     def test_night(self):
         """Its list comes from the second program."""
         got = meskelow.leaks((EXAMPLES / "night.footprint").read_bytes())
-        self.assertEqual(got.text, (EXAMPLES / "night.expected").read_text())
+        self.assertEqual((got.text, got.tested), ((EXAMPLES / "night.expected").read_text(), 148))
         first, *lines, closing = got.text.splitlines()
         self.assertEqual((first, closing), (f"leaks {len(got.leaks)}", f"touching {got.touching}"))
         self.assertEqual([f"test {leak.test} train {leak.train} pairs {leak.pairs}" for leak in got.leaks], lines)
 
     def test_no_leaks(self):
-        self.assertEqual(meskelow.leaks(EMPTY), ((), NO_LEAKS, 0))
-        self.assertEqual(meskelow.leaks(changed(70, 2)), ((), NO_LEAKS, 0))  # 9 is held back
-        self.assertEqual(meskelow.leaks(changed(58, 1)), ((), NO_LEAKS, 0))  # both are test recordings
+        self.assertEqual(meskelow.leaks(EMPTY), ((), NO_LEAKS, 0, 0))
+        self.assertEqual(meskelow.leaks(changed(70, 2)), ((), NO_LEAKS, 0, 0))  # 9 is held back
+        self.assertEqual(meskelow.leaks(changed(58, 1)), ((), NO_LEAKS, 0, 0))  # both are test recordings
 
     def test_kinds_of_bytes(self):
         """By the bytes that they hold, whatever these are called, in their order."""
@@ -647,7 +684,7 @@ class Writing(Case):
 
     def test_leaks_of_what_was_written(self):
         file = meskelow.write([own(7, meskelow.TRAINING, [V, V]), own(9, meskelow.TEST, [F, D]), own(3, meskelow.TEST, [F])])
-        self.assertEqual(meskelow.leaks(file), (((9, 7, 2),), "leaks 1\ntest 9 train 7 pairs 2\ntouching 1\n", 1))
+        self.assertEqual(meskelow.leaks(file), (((9, 7, 2),), "leaks 1\ntest 9 train 7 pairs 2\ntouching 1\n", 1, 6))
 
 
 @unittest.skipIf(numpy is None, "there is no numpy here")
@@ -816,7 +853,7 @@ class Errors(Case):
                 @staticmethod
                 def meskelow_leaks(file, length, room, room_length):
                     room[: len(text)] = text.encode()
-                    return meskelow._List(0, 0, len(text), count, touching)
+                    return meskelow._List(0, 0, len(text), count, touching, 0)
 
             with self.subTest(text=text):
                 self.put("_library", functools.lru_cache(maxsize=None)(lambda: Other))

@@ -1,17 +1,18 @@
--- 02, No. 1, worked by hand: what is said of 01's cases A to L, of lists of other lengths, of areas at the lower end of all floats, and of two pairs in which rounding speaks against exact numbers. Definitions and statements.
+-- 02, No. 1 and No. 3, worked by hand: what is said of 01's cases A to L, of lists of other lengths, of areas at the lower end of all floats, of two pairs in which rounding speaks against exact numbers, and of pairs whose boxes share no point, an edge or a corner. Definitions and statements.
 use mathlib.Core.Path.{_≡_}
 use mathlib.Core.Bool.{Bool, true, false}
 use mathlib.Core.List.{List, [], _∷_, _++_, map}
 use Prim.Native.Nat.{ℕ, _^_}
 use lib.IntN.{ℤ, pos, negsuc}
-use lib.Ieee.{Float, nan, binary64, ofInt, ofBits}
+use lib.Ieee.{Float, nan, inf, binary64, ofInt, ofBits}
 use Rattle.triangles.specs.declared.Said.{Said}
-use Rattle.triangles.specs.Decision.{said, decisionOf, overlaps, touches}
+use Rattle.triangles.specs.Decision.{said, byRules, decisionOf, overlaps, touches}
 
--- values, what is said of them, and whether the list takes them as overlapping or touching
+-- values, what is said of them, what the triangle rules alone would say, and whether the list takes them as overlapping or touching
 pub record Case : Type 0 where
   pub values : List Float
   pub says : Said
+  pub rules : Said
   pub overlaps : Bool
   pub touches : Bool
 
@@ -19,6 +20,9 @@ pub record Shown (c : Case) : Type 0 where
   pub number : said (decisionOf (c .values)) .number ≡ c .says .number
   pub kind : said (decisionOf (c .values)) .kind ≡ c .says .kind
   pub area : said (decisionOf (c .values)) .area ≡ c .says .area
+  pub rulesNumber : said (byRules (c .values)) .number ≡ c .rules .number
+  pub rulesKind : said (byRules (c .values)) .kind ≡ c .rules .kind
+  pub rulesArea : said (byRules (c .values)) .area ≡ c .rules .area
   pub overlaps : overlaps (decisionOf (c .values)) ≡ c .overlaps
   pub touches : touches (decisionOf (c .values)) ≡ c .touches
 
@@ -29,19 +33,29 @@ triangle a b c d e f = map (ofInt binary64) (a ∷ b ∷ c ∷ d ∷ e ∷ f ∷
 abbrev zero : Float
 zero = ofBits binary64 0
 
--- the four ways
+-- the four ways, in which boxes change nothing
+abbrev number : ℕ → Said
+number k = record { number = k; kind = 0; area = zero }
+
+abbrev kindOf : ℕ → Float → Said
+kindOf k a = record { number = 0; kind = k; area = a }
+
 abbrev refused : ℕ → List Float → Case
-refused k l = record { values = l; says = record { number = k; kind = 0; area = zero }; overlaps = true; touches = false }
+refused k l = record { values = l; says = number k; rules = number k; overlaps = true; touches = false }
 
 abbrev apart : List Float → Case
-apart l = record { values = l; says = record { number = 0; kind = 0; area = zero }; overlaps = false; touches = false }
+apart l = record { values = l; says = kindOf 0 zero; rules = kindOf 0 zero; overlaps = false; touches = false }
 
 abbrev touching : List Float → Case
-touching l = record { values = l; says = record { number = 0; kind = 1; area = zero }; overlaps = false; touches = true }
+touching l = record { values = l; says = kindOf 1 zero; rules = kindOf 1 zero; overlaps = false; touches = true }
 
 -- with the area's bits
 abbrev overlapping : List Float → ℕ → Case
-overlapping l bits = record { values = l; says = record { number = 0; kind = 2; area = ofBits binary64 bits }; overlaps = true; touches = false }
+overlapping l bits = record { values = l; says = kindOf 2 (ofBits binary64 bits); rules = kindOf 2 (ofBits binary64 bits); overlaps = true; touches = false }
+
+-- apart by its boxes, where the triangle rules would say something else
+abbrev far : List Float → Said → Case
+far l r = record { values = l; says = kindOf 0 zero; rules = r; overlaps = false; touches = false }
 
 -- V unless given, U of A, V of C, and a triangle on one line
 abbrev v : List Float
@@ -67,8 +81,19 @@ tiny = ofBits binary64 0x1e60_0000_0000_0000
 abbrev doubled : Float
 doubled = ofBits binary64 0x1e70_0000_0000_0000
 
-abbrev pub cases : List Case
-cases =
+-- one that overflows
+abbrev huge : List Float
+huge = triangle (pos 0) (pos 0) (pos (10 ^ 300)) (pos 0) (pos 0) (pos (10 ^ 300))
+
+-- the next value above 4.0, and −0.0
+abbrev aboveFour : Float
+aboveFour = ofBits binary64 0x4010_0000_0000_0001
+
+abbrev minusZero : Float
+minusZero = ofBits binary64 0x8000_0000_0000_0000
+
+abbrev pub known : List Case
+known =
     -- A to H
     overlapping (u ++ v) 0x3fe0_0000_0000_0000
     ∷ overlapping (large ++ u) 0x3fe0_0000_0000_0000
@@ -94,3 +119,41 @@ cases =
     -- V2 lies on U's edge from U2 to U0; computed, there is no ring
     ∷ apart (triangle (pos 0) (negsuc 0) (negsuc 0) (pos 0) (pos 0) (pos 3) ++ triangle (pos 4) (pos 1) (pos 2) (negsuc 0) (pos 0) (pos 1))
     ∷ []
+
+-- U and V as lists of six; V is (0,0),(4,0),(0,4), and a flat U tells by its refusal, 5, whether it was given to the triangle rules
+abbrev pub boxed : List Case
+boxed =
+    -- rounding gives a ring beyond the tip of a needle, with an area of 2^−33 and with none
+    far (triangle (pos 327628) (pos 2) (negsuc 335622) (pos 719289) (negsuc 969091) (pos 2) ++ triangle (negsuc 778993) (negsuc 314944) (negsuc 940498) (negsuc 380240) (pos 0) (pos 0)) (kindOf 2 (ofBits binary64 0x3de0_0000_0000_0000))
+    ∷ far (triangle (pos 4) (pos 591250) (pos 1) (negsuc 164390) (pos 500204) (negsuc 582336) ++ triangle (pos 0) (pos 0) (negsuc 933756) (negsuc 541493) (negsuc 973495) (negsuc 564538)) (kindOf 1 zero)
+    -- flat, a centimetre to the right of V, to its left, above and below
+    ∷ far (triangle (pos 5) (pos 0) (pos 6) (pos 1) (pos 7) (pos 2) ++ v) (number 5)
+    ∷ far (triangle (negsuc 2) (pos 0) (negsuc 1) (pos 1) (negsuc 0) (pos 2) ++ v) (number 5)
+    ∷ far (triangle (pos 0) (pos 5) (pos 1) (pos 6) (pos 2) (pos 7) ++ v) (number 5)
+    ∷ far (triangle (pos 0) (negsuc 2) (pos 1) (negsuc 1) (pos 2) (negsuc 0) ++ v) (number 5)
+    -- flat, with an edge in common there
+    ∷ refused 5 (triangle (pos 4) (pos 0) (pos 5) (pos 1) (pos 6) (pos 2) ++ v)
+    ∷ refused 5 (triangle (negsuc 1) (pos 0) (negsuc 0) (pos 1) (pos 0) (pos 2) ++ v)
+    ∷ refused 5 (triangle (pos 0) (pos 4) (pos 1) (pos 5) (pos 2) (pos 6) ++ v)
+    ∷ refused 5 (triangle (pos 0) (negsuc 1) (pos 1) (negsuc 0) (pos 2) (pos 0) ++ v)
+    -- with a corner in common, and nested
+    ∷ refused 5 (triangle (pos 4) (pos 4) (pos 5) (pos 5) (pos 6) (pos 6) ++ v)
+    ∷ refused 5 (triangle (pos 2) (pos 2) (pos 3) (pos 3) (pos 3) (pos 3) ++ v)
+    -- V flat, far and near
+    ∷ far (triangle (pos 10) (pos 10) (pos 14) (pos 10) (pos 10) (pos 14) ++ flat) (number 3)
+    ∷ refused 3 (triangle (pos 2) (pos 2) (pos 6) (pos 2) (pos 2) (pos 6) ++ flat)
+    -- overflow, far, as V and as U; near it is case L
+    ∷ far (triangle (negsuc 1) (negsuc 2) (negsuc 0) (negsuc 2) (negsuc 1) (negsuc 0) ++ huge) (number 4)
+    ∷ far (huge ++ triangle (negsuc 1) (negsuc 2) (negsuc 0) (negsuc 2) (negsuc 1) (negsuc 0)) (number 4)
+    -- a value that is not finite, in U and in V, whatever the boxes
+    ∷ refused 2 (triangle (pos 10) (pos 10) (pos 14) (pos 10) (pos 10) (pos 14) ++ (zero ∷ zero ∷ zero ∷ zero ∷ zero ∷ nan ∷ []))
+    ∷ refused 2 (triangle (pos 10) (pos 10) (pos 14) (pos 10) (pos 10) (pos 14) ++ (zero ∷ zero ∷ inf true ∷ zero ∷ zero ∷ zero ∷ []))
+    ∷ refused 2 ((nan ∷ zero ∷ zero ∷ zero ∷ zero ∷ zero ∷ []) ++ triangle (pos 10) (pos 10) (pos 14) (pos 10) (pos 10) (pos 14))
+    -- a point, three times: at the next value above 4.0, and at −0.0, which is where 0.0 is
+    ∷ far ((aboveFour ∷ zero ∷ aboveFour ∷ zero ∷ aboveFour ∷ zero ∷ []) ++ v) (number 5)
+    ∷ refused 5 ((minusZero ∷ zero ∷ minusZero ∷ zero ∷ minusZero ∷ zero ∷ []) ++ v)
+    ∷ []
+
+-- all of them
+abbrev pub cases : List Case
+cases = known ++ boxed
