@@ -5,5 +5,4 @@ pub mod Ids
 pub mod Never
 pub mod Returned
 pub mod Read
-pub mod Worked
 pub mod Enough

@@ -6,5 +6,4 @@ pub mod Read
 pub mod Listing
 pub mod Promise
 pub mod Demand
-pub mod Worked
 pub mod Enough

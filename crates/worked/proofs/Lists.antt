@@ -8,8 +8,8 @@ use lib.Ieee.{add, sub, mul, div, neg, lt, le, eq, ofInt, ofBits}
 use lib.Ieee.Fits.{and-l, and-r}
 use Rattle.floats.specs.Lists.{all}
 use Rattle.floats.proofs.Lists.{all-at, sameList, same-list}
 use Rattle.listing.specs.Listing.{ListAndRoom, listOf, outputOf}
-use Rattle.listing.specs.Worked.{Case, Shown, pointsOf, rooms, counts, boxes, cases}
+use Rattle.worked.specs.Lists.{Case, Shown, pointsOf, rooms, counts, boxes, cases}
 
 sameBytes : List ℕ → List ℕ → Bool
 unfolding sameList

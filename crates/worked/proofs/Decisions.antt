@@ -11,7 +11,7 @@ use Rattle.floats.proofs.Lists.{all-at, same-bool}
 use Rattle.floats.proofs.Same.{sameFloat, same-float}
 use Rattle.triangles.specs.declared.Said.{Said}
 use Rattle.triangles.specs.Decision.{said, byRules, decisionOf, overlaps, touches}
-use Rattle.decisions.specs.Worked.{Case, Shown, known, boxed, cases}
+use Rattle.worked.specs.Decisions.{Case, Shown, known, boxed, cases}
 
 same : Said → Said → Bool
 unfolding sameFloat
