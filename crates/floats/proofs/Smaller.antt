@@ -59,39 +59,48 @@ over : (s : Bool) (m : ℕ) (e : ℤ) (t : Bool) (n : ℕ) (d : ℤ) (k : ℕ) �
 unfolding lt
 over s m e t n d k h = sym (below-scaled s (m * up e * down d) t (n * up d * down e) k h)
 
--- x below y, and z not below y: x below z
-pub lt-through : (x y z : Float) → finite x ≡ true → finite y ≡ true → finite z ≡ true → lt x y ≡ true → lt z y ≡ false → lt x z ≡ true
-lt-through nan y z fx fy fz h k = absurd (false≢true fx)
-lt-through (inf s) y z fx fy fz h k = absurd (false≢true fx)
-lt-through (fin s m e) nan z fx fy fz h k = absurd (false≢true fy)
-lt-through (fin s m e) (inf t) z fx fy fz h k = absurd (false≢true fy)
-lt-through (fin s m e) (fin t n d) nan fx fy fz h k = absurd (false≢true fz)
-lt-through (fin s m e) (fin t n d) (inf r) fx fy fz h k = absurd (false≢true fz)
-lt-through (fin s m e) (fin t n d) (fin r o c) fx fy fz h k =
+-- three finite values over one denominator: signs and sizes by which all of their comparisons go
+record Over (x y z : Float) : Type 0 where
+  s : Bool
+  a : ℕ
+  t : Bool
+  b : ℕ
+  r : Bool
+  c : ℕ
+  xy : lt x y ≡ below s a t b
+  yx : lt y x ≡ below t b s a
+  yz : lt y z ≡ below t b r c
+  zy : lt z y ≡ below r c t b
+  xz : lt x z ≡ below s a r c
+
+three : (x y z : Float) → finite x ≡ true → finite y ≡ true → finite z ≡ true → Over x y z
+three nan y z fx fy fz = absurd (false≢true fx)
+three (inf s) y z fx fy fz = absurd (false≢true fx)
+three (fin s m e) nan z fx fy fz = absurd (false≢true fy)
+three (fin s m e) (inf t) z fx fy fz = absurd (false≢true fy)
+three (fin s m e) (fin t n d) nan fx fy fz = absurd (false≢true fz)
+three (fin s m e) (fin t n d) (inf r) fx fy fz = absurd (false≢true fz)
+three (fin s m e) (fin t n d) (fin r o c) fx fy fz =
     let A = m * up e * down d * down c in
     let B = n * up d * down e * down c in
     let C = o * up c * down d * down e in
-    let xy : below s A t B ≡ true = sym (over s m e t n d (down c) (down-pos c)) ∙ h in
-    let zy : below r C t B ≡ false = ap (below r C t) (mul-right-comm (n * up d) (down e) (down c)) ∙ (sym (over r o c t n d (down e) (down-pos e)) ∙ k) in
-    over s m e r o c (down d) (down-pos d)
-    ∙ (ap₂ (λ a b. below s a r b) (mul-right-comm (m * up e) (down c) (down d)) (mul-right-comm (o * up c) (down e) (down d)) ∙ below-through s A t B r C xy zy)
+    let mid = mul-right-comm (n * up d) (down c) (down e) in
+    record {
+      s = s; a = A; t = t; b = B; r = r; c = C;
+      xy = over s m e t n d (down c) (down-pos c);
+      yx = over t n d s m e (down c) (down-pos c);
+      yz = over t n d r o c (down e) (down-pos e) ∙ ap (λ x. below t x r C) mid;
+      zy = over r o c t n d (down e) (down-pos e) ∙ ap (below r C t) mid;
+      xz = over s m e r o c (down d) (down-pos d) ∙ ap₂ (λ x y. below s x r y) (mul-right-comm (m * up e) (down c) (down d)) (mul-right-comm (o * up c) (down e) (down d));
+    }
+
+-- x below y, and z not below y: x below z
+pub lt-through : (x y z : Float) → finite x ≡ true → finite y ≡ true → finite z ≡ true → lt x y ≡ true → lt z y ≡ false → lt x z ≡ true
+lt-through x y z fx fy fz h k = let v = three x y z fx fy fz in v .xz ∙ below-through (v .s) (v .a) (v .t) (v .b) (v .r) (v .c) (sym (v .xy) ∙ h) (sym (v .zy) ∙ k)
 
 -- y not below x, and y below z: x below z
 pub lt-after : (x y z : Float) → finite x ≡ true → finite y ≡ true → finite z ≡ true → lt y x ≡ false → lt y z ≡ true → lt x z ≡ true
-lt-after nan y z fx fy fz h k = absurd (false≢true fx)
-lt-after (inf s) y z fx fy fz h k = absurd (false≢true fx)
-lt-after (fin s m e) nan z fx fy fz h k = absurd (false≢true fy)
-lt-after (fin s m e) (inf t) z fx fy fz h k = absurd (false≢true fy)
-lt-after (fin s m e) (fin t n d) nan fx fy fz h k = absurd (false≢true fz)
-lt-after (fin s m e) (fin t n d) (inf r) fx fy fz h k = absurd (false≢true fz)
-lt-after (fin s m e) (fin t n d) (fin r o c) fx fy fz h k =
-    let A = m * up e * down d * down c in
-    let B = n * up d * down e * down c in
-    let C = o * up c * down d * down e in
-    let yx : below t B s A ≡ false = sym (over t n d s m e (down c) (down-pos c)) ∙ h in
-    let yz : below t B r C ≡ true = ap (λ b. below t b r C) (mul-right-comm (n * up d) (down e) (down c)) ∙ (sym (over t n d r o c (down e) (down-pos e)) ∙ k) in
-    over s m e r o c (down d) (down-pos d)
-    ∙ (ap₂ (λ a b. below s a r b) (mul-right-comm (m * up e) (down c) (down d)) (mul-right-comm (o * up c) (down e) (down d)) ∙ below-after s A t B r C yx yz)
+lt-after x y z fx fy fz h k = let v = three x y z fx fy fz in v .xz ∙ below-after (v .s) (v .a) (v .t) (v .b) (v .r) (v .c) (sym (v .yx) ∙ h) (sym (v .yz) ∙ k)
 
 -- what is below something is not above it
 pub lt-not-back : (x y : Float) → lt x y ≡ true → lt y x ≡ false
