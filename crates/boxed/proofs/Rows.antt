@@ -13,8 +13,8 @@ use lib.Ieee.{Float, nan, inf, fin, lt}
 use Rattle.boxes.specs.declared.Box.{Box}
 use Rattle.boxes.specs.Boxes.{around, sharePoint}
 use Rattle.boxes.specs.Shared.{FiniteBox, Within}
-use Rattle.boxes.proofs.Held.{within-through, around-finite, around-first, around-second}
-use Rattle.boxed.specs.Tables.{lesser, noBox, boxFrom, boxesOf, boxIn, boxOver, nextNear, Passed, PassesOver, HoldsAll}
+use Rattle.boxes.proofs.Held.{within-self, within-through, around-finite, around-first, around-second, none-within, no-point-turned}
+use Rattle.boxed.specs.Tables.{lesser, noBox, boxFrom, boxesOf, boxIn, boxOver, nextNear, Passed, PassesOver, HoldsAll, NoneOfEither, NoneOfThem}
 
 -- ---- box k
 pub box-there : (table : List Float) (k : ℕ) → k < boxesOf table → boxIn table k ≡ boxFrom table (4 * k)
@@ -79,6 +79,17 @@ pub holds-all : HoldsAll
 holds-all table j n each c h =
     let first : FiniteBox (boxIn table j) = subst (λ m. FiniteBox (boxIn table m)) (add-zero j) (each 0 (omega (arith, h))) in
     (over-finite table j n first each, over-holds table j n first each c h)
+
+pub none-of-either : NoneOfEither
+none-of-either table i m j n fi fj h a b ha hb =
+    let u = holds-all table i m fi a ha in
+    let v = holds-all table j n fj b hb in
+    none-within (boxIn table (i + a)) (boxOver table i m) (boxIn table (j + b)) (boxOver table j n) (fi a ha) (u .0) (fj b hb) (v .0) (u .1) (v .1) h
+
+pub none-of-them : NoneOfThem
+none-of-them table c j n fc fj h b l =
+    let w = holds-all table j n fj b l in
+    no-point-turned (boxIn table (j + b)) c (none-within (boxIn table (j + b)) (boxOver table j n) c c (fj b l) (w .0) fc fc (w .1) (within-self c) h)
 
 -- ---- the next that is near
 module _ (table : List Float) (b : Box) where

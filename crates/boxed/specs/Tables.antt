@@ -55,6 +55,18 @@ pub record Passed (table : List Float) (b : Box) (n k : ℕ) : Type 0 where
 abbrev pub PassesOver : Type 0
 PassesOver = (table : List Float) (b : Box) (n k : ℕ) → Passed table b n k
 
+-- n boxes from box j on are finite
+abbrev pub FiniteFrom : List Float → ℕ → ℕ → Type 0
+FiniteFrom table j n = (c : ℕ) → c < n → FiniteBox (boxIn table (j + c))
+
 -- every one of some finite boxes lies in the box around them
 abbrev pub HoldsAll : Type 0
-HoldsAll = (table : List Float) (j n : ℕ) → ((c : ℕ) → c < n → FiniteBox (boxIn table (j + c))) → (c : ℕ) → c < n → FiniteBox (boxOver table j n) × Within (boxIn table (j + c)) (boxOver table j n)
+HoldsAll = (table : List Float) (j n : ℕ) → FiniteFrom table j n → (c : ℕ) → c < n → FiniteBox (boxOver table j n) × Within (boxIn table (j + c)) (boxOver table j n)
+
+-- so where the boxes around the ones and around the others share no point, none of the ones shares one with any of the others
+abbrev pub NoneOfEither : Type 0
+NoneOfEither = (table : List Float) (i m j n : ℕ) → FiniteFrom table i m → FiniteFrom table j n → sharePoint (boxOver table i m) (boxOver table j n) ≡ false → (a b : ℕ) → a < m → b < n → sharePoint (boxIn table (i + a)) (boxIn table (j + b)) ≡ false
+
+-- and where one box shares no point with the box around others, it shares one with none of them
+abbrev pub NoneOfThem : Type 0
+NoneOfThem = (table : List Float) (c : Box) (j n : ℕ) → FiniteBox c → FiniteFrom table j n → sharePoint (boxOver table j n) c ≡ false → (b : ℕ) → b < n → sharePoint c (boxIn table (j + b)) ≡ false

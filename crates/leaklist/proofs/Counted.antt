@@ -18,13 +18,12 @@ use Rattle.shapes.specs.declared.Shape.{Shape}
 use Rattle.shapes.specs.Shapes.{Made, sixOf, twelve}
 use Rattle.boxes.specs.declared.Box.{Box}
 use Rattle.boxes.specs.Boxes.{boxOf, sharePoint}
-use Rattle.boxes.specs.Shared.{FiniteBox, Within}
+use Rattle.boxes.specs.Shared.{FiniteBox}
 use Rattle.boxes.specs.Near.{isNear, Given}
-use Rattle.boxes.proofs.Held.{within-self, none-within, no-point-turned}
 use Rattle.boxes.proofs.Points.{box-finite}
 use Rattle.boxes.proofs.Pairs.{boxes-tell}
-use Rattle.boxed.specs.Tables.{boxIn, boxOver, nextNear}
-use Rattle.boxed.proofs.Rows.{holds-all, passes-over}
+use Rattle.boxed.specs.Tables.{boxIn, boxOver, nextNear, FiniteFrom}
+use Rattle.boxed.proofs.Rows.{none-of-either, none-of-them, passes-over}
 use Rattle.routine.specs.Code.{rulesBy}
 use Rattle.routine.proofs.Decisions.{rules-of-made}
 use Rattle.listing.specs.declared.Tally.{Tally}
@@ -171,16 +170,8 @@ module _ (table bounds : List Float) where
   unfolding tallyIn upTo each folded
   tally-empty i j n = refl
 
-  -- the box of each of n triangles lies in the box around them
-  held-in : (j n : ℕ) → ReadyFrom table bounds j n → (c : ℕ) → c < n → FiniteBox (boxOver bounds j n) × Within (boxIn bounds (j + c)) (boxOver bounds j n)
-  held-in j n ready = holds-all bounds j n (λ c h. finite-in (j + c) (ready c h))
-
-  -- what shares no point with that box has no near one among them
-  whole-far : (a j n : ℕ) → ReadyAt table bounds a → ReadyFrom table bounds j n → sharePoint (boxOver bounds j n) (boxIn bounds a) ≡ false → (c : ℕ) → c < n → sharePoint (boxIn bounds a) (boxIn bounds (j + c)) ≡ false
-  whole-far a j n first ready h c l =
-      let w = held-in j n ready c l in
-      let fa = finite-in a first in
-      no-point-turned (boxIn bounds (j + c)) (boxIn bounds a) (none-within (boxIn bounds (j + c)) (boxOver bounds j n) (boxIn bounds a) (boxIn bounds a) (finite-in (j + c) (ready c l)) (w .0) fa fa (w .1) (within-self (boxIn bounds a)) h)
+  finite-from : (j n : ℕ) → ReadyFrom table bounds j n → FiniteFrom bounds j n
+  finite-from j n ready c h = finite-in (j + c) (ready c h)
 
   module _ (i m j n : ℕ) (tests-ready : ReadyFrom table bounds i m) (each-ready : ReadyFrom table bounds j n) where
     pub tally-on : (k : ℕ) {s : Tally} {whole : Box} {k' : ℕ} → i ≤ k → k ≤ i + m → whole ≡ boxOver bounds j n → s ≡ tallyIn table i (k - i) j n → k' ≡ nextNear bounds whole (i + m - k) k → (k ≤ k') × (k' ≤ i + m) × (s ≡ tallyIn table i (k' - i) j n)
@@ -192,7 +183,7 @@ module _ (table bounds : List Float) where
         let le : k ≤ k' = omega (arith, e, least) in
         let ge : k' ≤ i + m = omega (arith, e, most, high) in
         let parts : k' - i ≡ k - i + (k' - k) = omega (arith, low, le) in
-        let same = tally-skip i j n (k - i) (k' - k) (λ c l h. let r = tests-ready c (omega (arith, l, h, low, ge, le)) in row-far (i + c) j n r each-ready (whole-far (i + c) j n r each-ready (p .none (i + c) (omega (arith, l, low)) (omega (arith, h, low, e, le))))) in
+        let same = tally-skip i j n (k - i) (k' - k) (λ c l h. let r = tests-ready c (omega (arith, l, h, low, ge, le)) in row-far (i + c) j n r each-ready (none-of-them bounds (boxIn bounds (i + c)) j n (finite-in (i + c) r) (finite-from j n each-ready) (p .none (i + c) (omega (arith, l, low)) (omega (arith, h, low, e, le))))) in
         (le, ge, hs ∙ (sym same ∙ ap (λ a. tallyIn table i a j n) (sym parts)))
 
     pub tally-turn : (k : ℕ) {s r : Tally} → i ≤ k → s ≡ tallyIn table i (k - i) j n → r ≡ folded tallied s (rowIn table k j n) → r ≡ tallyIn table i (k + 1 - i) j n
@@ -208,13 +199,7 @@ module _ (table bounds : List Float) where
     pub tally-far : sharePoint (boxOver bounds i m) (boxOver bounds j n) ≡ false → tallyIn table i m j n ≡ noneYet
     tally-far h =
         ap (λ a. tallyIn table i a j n) (from-none m)
-        ∙ (tally-skip i j n 0 m (λ a l g. let r = tests-ready a (omega (arith, g)) in row-far (i + a) j n r each-ready (λ c k. pair-far a (omega (arith, g)) c k)) ∙ sym (tally-empty i j n))
+        ∙ (tally-skip i j n 0 m (λ a l g. let r = tests-ready a (omega (arith, g)) in row-far (i + a) j n r each-ready (λ c k. none-of-either bounds i m j n (finite-from i m tests-ready) (finite-from j n each-ready) h a c (omega (arith, g)) k)) ∙ sym (tally-empty i j n))
       where
         from-none : (m : ℕ) → m ≡ 0 + m
         from-none m = omega arith
-
-        pair-far : (a : ℕ) → a < m → (c : ℕ) → c < n → sharePoint (boxIn bounds (i + a)) (boxIn bounds (j + c)) ≡ false
-        pair-far a ha c hc =
-            let u = held-in i m tests-ready a ha in
-            let v = held-in j n each-ready c hc in
-            none-within (boxIn bounds (i + a)) (boxOver bounds i m) (boxIn bounds (j + c)) (boxOver bounds j n) (finite-in (i + a) (tests-ready a ha)) (u .0) (finite-in (j + c) (each-ready c hc)) (v .0) (u .1) (v .1) h

@@ -1,7 +1,7 @@
 -- Which pairs are far, by the tests: refusals 1 and 2 do not apply and the boxes share no point. Such a pair is apart, and any other is what the triangle rules say. Assumes nothing.
 use mathlib.Core.Path.{_≡_, refl, sym, ap, _∙_}
 use mathlib.Core.Logic.{_⊎_, inl, inr}
-use mathlib.Core.Bool.{Bool, true, false, false≢true}
+use mathlib.Core.Bool.{Bool, true, false, cond, false≢true}
 use mathlib.Core.List.{List, List·Memᴰ}
 use Prim.Native.Nat.{ℕ, _<_}
 use native.Mathlib.Omega.{arith}
@@ -10,6 +10,7 @@ use borrow.Author.Tests.{eqb-true, eqb-false, ne-eqb}
 use lib.ListN.{length}
 use lib.Ieee.{Float}
 use Rattle.floats.specs.Finite.{finite}
+use Rattle.floats.proofs.Lists.{taken, left}
 use Rattle.boxes.specs.Near.{isNear, Given, Far}
 use Rattle.boxes.proofs.Pairs.{boxes-tell}
 use Rattle.triangles.specs.declared.Decision.the-variants.{Apart}
@@ -50,16 +51,25 @@ module _ (l : List Float) where
   unfolding decisionOf byRules decided
   early k p q n = rw (p, ne-eqb k 0 n) (sym (ap (λ w. decided (w .answer)) (refused-is l enough (λ z. n (sym q ∙ z))) ∙ rw (q, ne-eqb k 0 n) refl))
 
-  none-early : rowTest lengths l enough ≡ false → rowTest coordinates l enough ≡ false → beforeBoxes l ≡ 0
+  -- what is said before the boxes: 1, 2 or nothing
+  says-1 : rowTest lengths l enough ≡ true → beforeBoxes l ≡ 1
   unfolding beforeBoxes firstOf
-  none-early e f = rw (e, f) refl
+  says-1 e = sym (taken (cond (rowTest coordinates l enough) 2 0) e refl)
+
+  says-2 : rowTest lengths l enough ≡ false → rowTest coordinates l enough ≡ true → beforeBoxes l ≡ 2
+  unfolding beforeBoxes firstOf
+  says-2 e f = sym (left 1 e (taken 0 f refl))
+
+  says-none : rowTest lengths l enough ≡ false → rowTest coordinates l enough ≡ false → beforeBoxes l ≡ 0
+  unfolding beforeBoxes firstOf
+  says-none e f = sym (left 1 e (left 2 f refl))
 
   -- ---- the decision
   pub decision-by : (Far l × (decisionOf l ≡ Apart)) ⊎ ((Far l → ⊥) × (decisionOf l ≡ byRules l))
   decision-by = go (rowTest lengths l enough) refl (rowTest coordinates l enough) refl (isNear l) refl
     where
       go : (a : Bool) → rowTest lengths l enough ≡ a → (b : Bool) → rowTest coordinates l enough ≡ b → (c : Bool) → isNear l ≡ c → (Far l × (decisionOf l ≡ Apart)) ⊎ ((Far l → ⊥) × (decisionOf l ≡ byRules l))
-      go true e b f c g = inr (not-far-1 e, early 1 (unfold beforeBoxes firstOf in rw e refl) (unfold refusalOf firstOf in rw e refl) (λ z. omega (arith, z)))
-      go false e true f c g = inr (not-far-2 f, early 2 (unfold beforeBoxes firstOf in rw (e, f) refl) (unfold refusalOf firstOf in rw (e, f) refl) (λ z. omega (arith, z)))
-      go false e false f true g = inr (boxes-tell l (given e f) .near .0 g, unfold decisionOf in rw (none-early e f, g) refl)
-      go false e false f false g = inl (boxes-tell l (given e f) .far .0 g, unfold decisionOf in rw (none-early e f, g) refl)
+      go true e b f c g = inr (not-far-1 e, early 1 (says-1 e) (unfold refusalOf firstOf in rw e refl) (λ z. omega (arith, z)))
+      go false e true f c g = inr (not-far-2 f, early 2 (says-2 e f) (unfold refusalOf firstOf in rw (e, f) refl) (λ z. omega (arith, z)))
+      go false e false f true g = inr (boxes-tell l (given e f) .near .0 g, unfold decisionOf in rw (says-none e f, g) refl)
+      go false e false f false g = inl (boxes-tell l (given e f) .far .0 g, unfold decisionOf in rw (says-none e f, g) refl)
