@@ -1,7 +1,7 @@
 -- Which pairs are far, by the tests: refusals 1 and 2 do not apply and the boxes share no point. Such a pair is apart, and any other is what the triangle rules say. Assumes nothing.
 use mathlib.Core.Path.{_≡_, refl, sym, ap, _∙_}
 use mathlib.Core.Logic.{_⊎_, inl, inr}
-use mathlib.Core.Bool.{Bool, true, false, cond, false≢true}
+use mathlib.Core.Bool.{Bool, true, false, false≢true}
 use mathlib.Core.List.{List, List·Memᴰ}
 use Prim.Native.Nat.{ℕ, _<_}
 use native.Mathlib.Omega.{arith}
@@ -54,11 +54,11 @@ module _ (l : List Float) where
   -- what is said before the boxes: 1, 2 or nothing
   says-1 : rowTest lengths l enough ≡ true → beforeBoxes l ≡ 1
   unfolding beforeBoxes firstOf
-  says-1 e = sym (taken (cond (rowTest coordinates l enough) 2 0) e refl)
+  says-1 e = sym (taken _ e refl)
 
   says-2 : rowTest lengths l enough ≡ false → rowTest coordinates l enough ≡ true → beforeBoxes l ≡ 2
   unfolding beforeBoxes firstOf
-  says-2 e f = sym (left 1 e (taken 0 f refl))
+  says-2 e f = sym (left 1 e (taken _ f refl))
 
   says-none : rowTest lengths l enough ≡ false → rowTest coordinates l enough ≡ false → beforeBoxes l ≡ 0
   unfolding beforeBoxes firstOf
