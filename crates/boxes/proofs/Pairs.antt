@@ -2,18 +2,20 @@
 use mathlib.Core.Path.{_≡_, refl, sym, subst, _∙_}
 use mathlib.Core.Logic.{_↔_}
 use mathlib.Core.Bool.{Bool, true, false, true≢false}
-use mathlib.Core.List.{List, List·Memᴰ·head as here, List·Memᴰ·tail as there}
+use mathlib.Core.List.{List, [], _∷_, List·Memᴰ·head as here, List·Memᴰ·tail as there}
 use Prim.Native.Nat.{ℕ, _<_}
+use native.Mathlib.Omega.{arith}
 use lib.Dec.{lit<}
 use lib.ListN.{length, getD}
 use lib.Ieee.{Float, nan}
 use Rattle.floats.specs.Finite.{finite}
+use Rattle.floats.specs.declared.Position.{Position}
 use Rattle.floats.proofs.Lists.{so, os, all-of, all-getD}
-use Rattle.boxes.specs.Shared.{AllFinite, SharedExactlyIf}
-use Rattle.boxes.specs.Near.{cornersOfU, cornersOfV, isNear, Given, Far, BoxesTell}
+use Rattle.boxes.specs.Shared.{boxAround, In, AllFinite, SharedExactlyIf}
+use Rattle.boxes.specs.Near.{cornersOfU, cornersOfV, isNear, TwelveFinite, Far, AllTwelve, BoxesTell}
 use Rattle.boxes.proofs.Points.{shared-points}
 
-module _ (l : List Float) (g : Given l) where
+module _ (l : List Float) (g : TwelveFinite l) where
   at : (k : ℕ) → k < 12 → finite (getD l k nan) ≡ true
   at k h = so (all-getD finite l k nan (all-of finite l (λ v m. os (g .allFinite v m))) (subst (λ n. k < n) (sym (g .twelve)) h))
 
@@ -58,5 +60,25 @@ module _ (l : List Float) (g : Given l) where
       go true e far = absurd (near-not-far e far)
       go false e far = e
 
+  point : (isNear l ≡ true) ↔ ((p : Position) × In (boxAround (cornersOfU l)) p × In (boxAround (cornersOfV l)) p)
+  unfolding isNear
+  point = boxes .some
+
 pub boxes-tell : BoxesTell
-boxes-tell l g = record { far = none l g; near = shared l g }
+boxes-tell l g = record { far = none l g; near = shared l g; point = point l g }
+
+pub all-twelve : AllTwelve
+all-twelve [] h = absurd (omega (arith, h))
+all-twelve (x0 ∷ []) h = absurd (omega (arith, h))
+all-twelve (x0 ∷ x1 ∷ []) h = absurd (omega (arith, h))
+all-twelve (x0 ∷ x1 ∷ x2 ∷ []) h = absurd (omega (arith, h))
+all-twelve (x0 ∷ x1 ∷ x2 ∷ x3 ∷ []) h = absurd (omega (arith, h))
+all-twelve (x0 ∷ x1 ∷ x2 ∷ x3 ∷ x4 ∷ []) h = absurd (omega (arith, h))
+all-twelve (x0 ∷ x1 ∷ x2 ∷ x3 ∷ x4 ∷ x5 ∷ []) h = absurd (omega (arith, h))
+all-twelve (x0 ∷ x1 ∷ x2 ∷ x3 ∷ x4 ∷ x5 ∷ x6 ∷ []) h = absurd (omega (arith, h))
+all-twelve (x0 ∷ x1 ∷ x2 ∷ x3 ∷ x4 ∷ x5 ∷ x6 ∷ x7 ∷ []) h = absurd (omega (arith, h))
+all-twelve (x0 ∷ x1 ∷ x2 ∷ x3 ∷ x4 ∷ x5 ∷ x6 ∷ x7 ∷ x8 ∷ []) h = absurd (omega (arith, h))
+all-twelve (x0 ∷ x1 ∷ x2 ∷ x3 ∷ x4 ∷ x5 ∷ x6 ∷ x7 ∷ x8 ∷ x9 ∷ []) h = absurd (omega (arith, h))
+all-twelve (x0 ∷ x1 ∷ x2 ∷ x3 ∷ x4 ∷ x5 ∷ x6 ∷ x7 ∷ x8 ∷ x9 ∷ x10 ∷ []) h = absurd (omega (arith, h))
+all-twelve (x0 ∷ x1 ∷ x2 ∷ x3 ∷ x4 ∷ x5 ∷ x6 ∷ x7 ∷ x8 ∷ x9 ∷ x10 ∷ x11 ∷ []) h = refl
+all-twelve (x0 ∷ x1 ∷ x2 ∷ x3 ∷ x4 ∷ x5 ∷ x6 ∷ x7 ∷ x8 ∷ x9 ∷ x10 ∷ x11 ∷ y ∷ l) h = absurd (omega (arith, h))

@@ -11,17 +11,14 @@ use lib.Ieee.{Float}
 use Rattle.floats.specs.Lists.{once}
 use Rattle.floats.specs.Finite.{finite}
 use Rattle.triangles.specs.declared.Decision.{Decision}
-use Rattle.triangles.specs.declared.Decision.the-variants.{Apart}
 use Rattle.triangles.specs.Decision.{byRules, decisionOf, overlaps, touches}
-use Rattle.triangles.proofs.Decided.{boxes-first}
 use Rattle.shapes.specs.declared.Shape.{Shape}
 use Rattle.shapes.specs.Shapes.{Made, sixOf, twelve}
 use Rattle.boxes.specs.declared.Box.{Box}
 use Rattle.boxes.specs.Boxes.{boxOf, sharePoint}
 use Rattle.boxes.specs.Shared.{FiniteBox}
-use Rattle.boxes.specs.Near.{isNear, Given}
+use Rattle.boxes.specs.Near.{isNear, TwelveFinite}
 use Rattle.boxes.proofs.Points.{box-finite}
-use Rattle.boxes.proofs.Pairs.{boxes-tell}
 use Rattle.boxed.specs.Tables.{boxIn, boxOver, nextNear, FiniteFrom}
 use Rattle.boxed.proofs.Rows.{none-of-either, none-of-them, passes-over}
 use Rattle.routine.specs.Code.{rulesBy}
@@ -30,6 +27,7 @@ use Rattle.listing.specs.declared.Tally.{Tally}
 use Rattle.listing.specs.Turns.{upTo, each, folded}
 use Rattle.listing.specs.Pairs.{noneYet, tallied}
 use Rattle.listing.proofs.Turns.{map-append, folded-append, each-append, each-one}
+use Rattle.listing.proofs.Never.{by-boxes}
 use Rattle.leaklist.specs.Code.{shapeIn, boxOfShape, ReadyAt, ReadyFrom, valuesIn, rowIn, talliedNear, tallyIn}
 
 one-more : (n : ℕ) → upTo (n + 1) ≡ upTo n ++ (n ∷ [])
@@ -43,19 +41,13 @@ pub tally-same : {a b c d e f : ℕ} → a ≡ d → b ≡ e → c ≡ f → tal
 tally-same p q r = rw (p, q, r) refl
 
 -- ---- one pair
--- a far one adds nothing
-adds-none : (l : List Float) → Given l → isNear l ≡ false → (t : Tally) → tallied t l ≡ t
-adds-none l g h t =
-    let apart : decisionOf l ≡ Apart = boxes-first l .far (boxes-tell l g .far .0 h) in
-    rw (apart, h) (tally-same (omega arith) (omega arith) (omega arith))
-
--- a near one is what the triangle rules decide
-adds-near : (l : List Float) → Given l → isNear l ≡ true → (t : Tally) → tallied t l ≡ talliedNear t (byRules l)
-adds-near l g h t = rw (boxes-first l .near (boxes-tell l g .near .0 h), h) refl
+-- a near one is what the triangle rules decide; a far one adds nothing
+adds-near : (l : List Float) → TwelveFinite l → isNear l ≡ true → (t : Tally) → tallied t l ≡ talliedNear t (byRules l)
+adds-near l g h t = rw (by-boxes l g .ruled h, h) refl
 
 -- ---- two triangles of the table
 module _ (table bounds : List Float) where
-  given-in : (i j : ℕ) → ReadyAt table bounds i → ReadyAt table bounds j → Given (valuesIn table i j)
+  given-in : (i j : ℕ) → ReadyAt table bounds i → ReadyAt table bounds j → TwelveFinite (valuesIn table i j)
   given-in i j p q = record { twelve = refl; allFinite = λ v m. ⊎-elim (p .allFinite v) (q .allFinite v) (List·Memᴰ·append-cases (sixOf (shapeIn table i)) m) }
 
   near-in : (i j : ℕ) → ReadyAt table bounds i → ReadyAt table bounds j → isNear (valuesIn table i j) ≡ sharePoint (boxIn bounds i) (boxIn bounds j)
@@ -63,7 +55,7 @@ module _ (table bounds : List Float) where
   near-in i j p q = sym (ap₂ sharePoint (p .framed) (q .framed))
 
   far-in : (i j : ℕ) → ReadyAt table bounds i → ReadyAt table bounds j → sharePoint (boxIn bounds i) (boxIn bounds j) ≡ false → (t : Tally) → tallied t (valuesIn table i j) ≡ t
-  far-in i j p q h = adds-none (valuesIn table i j) (given-in i j p q) (near-in i j p q ∙ h)
+  far-in i j p q h = by-boxes (valuesIn table i j) (given-in i j p q) .adds (near-in i j p q ∙ h)
 
   counted-in : (i j : ℕ) → ReadyAt table bounds i → ReadyAt table bounds j → sharePoint (boxIn bounds i) (boxIn bounds j) ≡ true → (t : Tally) → tallied t (valuesIn table i j) ≡ talliedNear t (rulesBy (shapeIn table i) (shapeIn table j))
   counted-in i j p q h t = adds-near (valuesIn table i j) (given-in i j p q) (near-in i j p q ∙ h) t ∙ ap (talliedNear t) (sym (rules-of-made (shapeIn table i) (shapeIn table j) (p .made, q .made)))

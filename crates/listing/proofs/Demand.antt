@@ -184,12 +184,15 @@ module _ (file : List ℕ) where
   unfolding leakOf
   named i j = (refl, refl, refl)
 
-  no-held-back : (i j k : ℕ) → List·Memᴰ (i, j) (leakPairs file) ⊎ List·Memᴰ (i, j) (touchingPairs file) → entryAt file k .set ≡ 2 → (i ≡ k → ⊥) × (j ≡ k → ⊥)
-  no-held-back i j k m e =
-      let h = either m in
+  -- recordings that are compared are not held back
+  not-held-back : (i j k : ℕ) → Compared file i j → entryAt file k .set ≡ 2 → (i ≡ k → ⊥) × (j ≡ k → ⊥)
+  not-held-back i j k h e =
       let t = h .test in
       let r = h .training in
       (λ q. let z = ap (λ n. entryAt file n .set) q in omega (arith, e, t, z), λ q. let z = ap (λ n. entryAt file n .set) q in omega (arith, e, r, z))
+
+  no-held-back : (i j k : ℕ) → List·Memᴰ (i, j) (leakPairs file) ⊎ List·Memᴰ (i, j) (touchingPairs file) → entryAt file k .set ≡ 2 → (i ≡ k → ⊥) × (j ≡ k → ⊥)
+  no-held-back i j k m = not-held-back i j k (either m)
     where
       either : List·Memᴰ (i, j) (leakPairs file) ⊎ List·Memᴰ (i, j) (touchingPairs file) → Compared file i j
       either (inl m) = leaking i j m .compared
@@ -209,7 +212,7 @@ module _ (file : List ℕ) where
   in-two p = map (λ q. (p, q)) (of-two p)
 
   tested-exactly : (i j a b : ℕ) → List·Memᴰ ((i, j), (a, b)) (testedPairs file) ↔ Tested file i j a b
-  unfolding testedPairs allPairs
+  unfolding testedPairs allPairs nearAt
   tested-exactly i j a b = (to, from)
     where
       to : List·Memᴰ ((i, j), (a, b)) (testedPairs file) → Tested file i j a b
@@ -226,6 +229,9 @@ module _ (file : List ℕ) where
           kept (isTested file) (allPairs file)
           (in-each in-two (recordingPairs file) (a-pair i j (h .compared)) (mapped (λ q. ((i, j), q)) (of-two (i, j)) (pair-in (entryAt file i) (entryAt file j) a b (h .inTest) (h .inTraining))))
           (h .near)
+
+  none-tested : (i j a b k : ℕ) → List·Memᴰ ((i, j), (a, b)) (testedPairs file) → entryAt file k .set ≡ 2 → (i ≡ k → ⊥) × (j ≡ k → ⊥)
+  none-tested i j a b k m = not-held-back i j k (tested-exactly i j a b .0 m .compared)
 
   -- by their recordings, and then by their triangles
   abbrev InTurn : (ℕ × ℕ) × (ℕ × ℕ) → (ℕ × ℕ) × (ℕ × ℕ) → Type 0
@@ -279,4 +285,5 @@ demand2 file = record {
   testedCounted = unfold tested in refl;
   testedWalked = tested-walked file;
   noHeldBack = no-held-back file;
+  noneTested = none-tested file;
 }

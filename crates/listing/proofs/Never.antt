@@ -2,13 +2,15 @@
 use Prim.Native.Nat.{ℕ, _+_, _*_, _<_, _≤_}
 use mathlib.Core.Path.{_≡_, sym, refl, ap, ap₂, subst, _∙_}
 use mathlib.Core.Logic.{⊎-elim}
+use mathlib.Core.Bool.{false}
 use mathlib.Core.List.{List, _++_, map, List·Memᴰ·append-cases}
 use native.Mathlib.Omega.{arith}
-use lib.Ieee.{binary64, ofInt}
+use lib.Ieee.{Float, binary64, ofInt}
 use Rattle.floats.specs.Finite.{finite}
 use Rattle.floats.proofs.Lists.{so, os, all-at}
-use Rattle.boxes.specs.Near.{Given}
+use Rattle.boxes.specs.Near.{isNear, TwelveFinite}
 use Rattle.boxes.proofs.Pairs.{boxes-tell}
+use Rattle.triangles.specs.declared.Decision.the-variants.{Apart}
 use Rattle.triangles.specs.Decision.{decisionOf}
 use Rattle.triangles.proofs.Decided.{boxes-first}
 use Rattle.layout.specs.Bytes.{i32At}
@@ -20,8 +22,9 @@ use Rattle.centimetres.specs.Centimetres.{Centimetres, twelveValues}
 use Rattle.centimetres.proofs.Pair.{values, values-finite}
 use Rattle.centimetres.proofs.Never.{always-decided}
 use Rattle.centimetres.proofs.Passed.{in-good-files}
-use Rattle.listing.specs.Pairs.{placeIn, coordinatesAt, valuesAt, decisionAt, nearAt}
-use Rattle.listing.specs.Demand.{DecidedOfParts, NoneRefused, FarApart}
+use Rattle.listing.specs.declared.Tally.{Tally}
+use Rattle.listing.specs.Pairs.{placeIn, coordinatesAt, valuesAt, decisionAt, tallied}
+use Rattle.listing.specs.Demand.{DecidedOfParts, NoneRefused, ValuesOfParts, PairByBoxes, FarApart}
 use Rattle.listing.proofs.Turns.{map-append}
 
 module _ (file : List ℕ) (good : Layout file) where
@@ -61,16 +64,32 @@ none-refused file good i j a b hi hj ha hb k e =
 
 -- ---- far pairs
 -- twelve values, each finite
-pub all-given : (u v : Triangle) → Centimetres u → Centimetres v → Given (twelveValues u v)
+pub all-given : (u v : Triangle) → Centimetres u → Centimetres v → TwelveFinite (twelveValues u v)
 all-given u v hu hv =
     let zs = numbersOf u ++ numbersOf v in
     let fine = values-finite zs (λ z m. ⊎-elim (hu .inRange z) (hv .inRange z) (List·Memᴰ·append-cases (numbersOf u) m)) in
     record { twelve = refl; allFinite = λ x m. so (all-at finite (values zs) (os fine) m) }
 
+-- what boxes tell of them
+pub by-boxes : (values : List Float) → TwelveFinite values → PairByBoxes values
+by-boxes values g =
+    let tell = boxes-tell values g in
+    let apart : isNear values ≡ false → decisionOf values ≡ Apart = λ e. boxes-first values .far (tell .far .0 e) in
+    record {
+      shared = tell .point;
+      ruled = λ e. boxes-first values .near (tell .near .0 e);
+      far = tell .far;
+      apart = apart;
+      adds = λ e t. rw (apart e, e) (tally-same (omega arith) (omega arith) (omega arith));
+    }
+  where
+    tally-same : {a b c d e f : ℕ} → a ≡ d → b ≡ e → c ≡ f → _≡_ {A = Tally} (record { overlapping = a; touching = b; tested = c }) (record { overlapping = d; touching = e; tested = f })
+    tally-same p q r = rw (p, q, r) refl
+
 pub far-apart : FarApart
-unfolding decisionAt nearAt
 far-apart file good i j a b hi hj ha hb =
-    let l = valuesAt file (entryAt file i) (entryAt file j) a b in
-    let given = subst Given (values-are file good i j a b hi hj ha hb) (all-given (tri file good i a) (tri file good j b) (in-good-files file i a good hi ha) (in-good-files file j b good hj hb)) in
-    let tell = boxes-tell l given .far in
-    record { exactlyIf = tell; apart = λ e. boxes-first l .far (tell .0 e) }
+    by-boxes (valuesAt file (entryAt file i) (entryAt file j) a b)
+    (subst TwelveFinite (values-are file good i j a b hi hj ha hb) (all-given (tri file good i a) (tri file good j b) (in-good-files file i a good hi ha) (in-good-files file j b good hj hb)))
+
+pub values-of-parts : ValuesOfParts
+values-of-parts file good i j a b hi hj ha hb = sym (values-are file good i j a b hi hj ha hb)

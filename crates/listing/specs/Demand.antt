@@ -5,16 +5,20 @@ use mathlib.Core.Logic.{_⊎_, _↔_}
 use mathlib.Core.Bool.{true, false}
 use mathlib.Core.List.{List, map, List·Memᴰ}
 use lib.ListN.{length, getD}
+use lib.Ieee.{Float}
 use Rattle.floats.specs.Lists.{count}
 use Rattle.triangles.specs.declared.Decision.the-variants.{Refused, Apart}
-use Rattle.boxes.specs.Near.{Far}
-use Rattle.triangles.specs.Decision.{overlaps, touches, decisionOf}
+use Rattle.floats.specs.declared.Position.{Position}
+use Rattle.boxes.specs.Shared.{boxAround, In}
+use Rattle.boxes.specs.Near.{cornersOfU, cornersOfV, isNear, Far}
+use Rattle.triangles.specs.Decision.{overlaps, touches, byRules, decisionOf}
 use Rattle.centimetres.specs.Centimetres.{twelveValues}
 use Rattle.layout.specs.Recordings.{partOf}
 use Rattle.layout.specs.Parts.{countOf, entryAt, triangleFrom}
 use Rattle.layout.specs.Layout.{Layout}
 use Rattle.listing.specs.Turns.{folded}
-use Rattle.listing.specs.Pairs.{valuesAt, decisionAt, nearAt, decisions}
+use Rattle.listing.specs.declared.Tally.{Tally}
+use Rattle.listing.specs.Pairs.{valuesAt, decisionAt, decisions, tallied}
 use Rattle.listing.specs.Leaks.{Leak, recordingPairs, tallyFor, leakPairs, leakOf, leaks, touchingPairs, touching, testedPairs, tested}
 
 -- the triangles a of recording i, as U, and b of recording j, as V, overlap; or touch
@@ -51,7 +55,7 @@ pub record Tested (file : List ℕ) (i j a b : ℕ) : Type 0 where
   pub compared : Compared file i j
   pub inTest : a < entryAt file i .count
   pub inTraining : b < entryAt file j .count
-  pub near : nearAt file (entryAt file i) (entryAt file j) a b ≡ true
+  pub near : isNear (valuesAt file (entryAt file i) (entryAt file j) a b) ≡ true
 
 -- table order: of test recordings, and of training recordings within a test recording
 abbrev pub InTableOrder : ℕ × ℕ → ℕ × ℕ → Type 0
@@ -100,8 +104,9 @@ pub record ListDemand2 (file : List ℕ) : Type 0 where
   pub testedCounted : tested file ≡ length (testedPairs file)
   -- and it is what is counted over the walk, pair of recordings by pair of recordings
   pub testedWalked : tested file ≡ folded _+_ 0 (map (λ p. tallyFor file p .tested) (recordingPairs file))
-  -- a held back recording has no part in any line, nor in what the closing line counts
+  -- a held back recording has no part in any line, nor in what the closing line counts, nor in any pair that is tested
   pub noHeldBack : (i j k : ℕ) → List·Memᴰ (i, j) (leakPairs file) ⊎ List·Memᴰ (i, j) (touchingPairs file) → entryAt file k .set ≡ 2 → (i ≡ k → ⊥) × (j ≡ k → ⊥)
+  pub noneTested : (i j a b k : ℕ) → List·Memᴰ ((i, j), (a, b)) (testedPairs file) → entryAt file k .set ≡ 2 → (i ≡ k → ⊥) × (j ≡ k → ⊥)
 
 abbrev pub DemandTwo : Type 0
 DemandTwo = (file : List ℕ) → ListDemand2 file
@@ -128,10 +133,20 @@ DecidedOfParts = (file : List ℕ) → Layout file → (i j a b : ℕ) → i < c
 abbrev pub NoneRefused : Type 0
 NoneRefused = (file : List ℕ) → Layout file → (i j a b : ℕ) → i < countOf file → j < countOf file → a < entryAt file i .count → b < entryAt file j .count → (k : ℕ) → decisionAt file (entryAt file i) (entryAt file j) a b ≡ Refused k → ⊥
 
--- of two triangles of an accepted file: their boxes share no point exactly if the pair is far, and then it is apart and adds nothing to any count
-pub record FarAway (file : List ℕ) (i j a b : ℕ) : Type 0 where
-  pub exactlyIf : (nearAt file (entryAt file i) (entryAt file j) a b ≡ false) ↔ Far (valuesAt file (entryAt file i) (entryAt file j) a b)
-  pub apart : nearAt file (entryAt file i) (entryAt file j) a b ≡ false → decisionAt file (entryAt file i) (entryAt file j) a b ≡ Apart
+-- the values of which this is decided and by which pairs are counted are those of the parts too
+abbrev pub ValuesOfParts : Type 0
+ValuesOfParts = (file : List ℕ) → Layout file → (i j a b : ℕ) → i < countOf file → j < countOf file → a < entryAt file i .count → b < entryAt file j .count → valuesAt file (entryAt file i) (entryAt file j) a b ≡ twelveValues (triangleFrom (partOf file i) (24 * a)) (triangleFrom (partOf file j) (24 * b))
 
+-- of two triangles, by their values:
+pub record PairByBoxes (values : List Float) : Type 0 where
+  -- their boxes share a point exactly if some point is in both, and then the pair is decided by the triangle rules
+  pub shared : (isNear values ≡ true) ↔ ((p : Position) × In (boxAround (cornersOfU values)) p × In (boxAround (cornersOfV values)) p)
+  pub ruled : isNear values ≡ true → decisionOf values ≡ byRules values
+  -- they share none exactly if the pair is far, and then it is apart and adds nothing to any count
+  pub far : (isNear values ≡ false) ↔ Far values
+  pub apart : isNear values ≡ false → decisionOf values ≡ Apart
+  pub adds : isNear values ≡ false → (t : Tally) → tallied t values ≡ t
+
+-- so of any two triangles of an accepted file
 abbrev pub FarApart : Type 0
-FarApart = (file : List ℕ) → Layout file → (i j a b : ℕ) → i < countOf file → j < countOf file → a < entryAt file i .count → b < entryAt file j .count → FarAway file i j a b
+FarApart = (file : List ℕ) → Layout file → (i j a b : ℕ) → i < countOf file → j < countOf file → a < entryAt file i .count → b < entryAt file j .count → PairByBoxes (valuesAt file (entryAt file i) (entryAt file j) a b)

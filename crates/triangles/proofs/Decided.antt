@@ -21,7 +21,7 @@ use Rattle.triangles.specs.Positions.{positionOf, ringPositions, areaOf}
 use Rattle.triangles.specs.Refusals.{Row, lengths, coordinates, wayToD, dZero, wayToE, eZero, wayToParameter, wayToPairTest, wayToPosition, wayToArea, table, numberOf, rowTest, firstOf, refusalOf}
 use Rattle.triangles.specs.Answers.{answerOf, answered, wholeOf}
 use Rattle.triangles.specs.Rows.{Applies, RefusedBy}
-use Rattle.triangles.specs.Decision.{isAbove, decided, enough, answerTo, byRules, decisionOf, overlaps, touches, said, OverlapsBy, ApartBy, KindBy, OneKind, BoxesFirst, Decided, NoSecondDecision, NoSecondSaid, SaidDemand, SaidReturned, AnyRoom}
+use Rattle.triangles.specs.Decision.{isAbove, decided, enough, answerTo, byRules, decisionOf, overlaps, touches, said, OverlapsBy, ApartBy, KindBy, OneKind, BoxesFirst, SameVertices, Decided, NoSecondDecision, NoSecondSaid, SaidDemand, SaidReturned, AnyRoom}
 use Rattle.triangles.proofs.Rows.{answered-is, refused-is, exactly-when}
 use Rattle.triangles.proofs.FiniteAnswer.{finite-answer}
 use Rattle.triangles.proofs.Nought.{area-nought}
@@ -163,6 +163,9 @@ boxes-first l = record {
     | inr h ↦ absurd (no (h .1))
   ];
 }
+
+pub same-vertices : SameVertices
+same-vertices values = (refl, refl)
 
 -- ---- what is said
 module _ (l : List Float) where

@@ -11,7 +11,7 @@ use lib.ListN.{length}
 use lib.Ieee.{Float}
 use Rattle.floats.specs.Finite.{finite}
 use Rattle.floats.proofs.Lists.{taken, left}
-use Rattle.boxes.specs.Near.{isNear, Given, Far}
+use Rattle.boxes.specs.Near.{isNear, TwelveFinite, Far}
 use Rattle.boxes.proofs.Pairs.{boxes-tell}
 use Rattle.triangles.specs.declared.Decision.the-variants.{Apart}
 use Rattle.triangles.specs.Refusals.{lengths, coordinates, rowTest, firstOf, refusalOf}
@@ -34,7 +34,7 @@ module _ (l : List Float) where
       go true e = e
       go false e = absurd (false≢true (sym h ∙ test-applies coordinates l enough .1 (v, m, e)))
 
-  given : rowTest lengths l enough ≡ false → rowTest coordinates l enough ≡ false → Given l
+  given : rowTest lengths l enough ≡ false → rowTest coordinates l enough ≡ false → TwelveFinite l
   given e f = record { twelve = is-twelve e; allFinite = is-fine f }
 
   not-far-1 : rowTest lengths l enough ≡ true → Far l → ⊥

@@ -10,11 +10,15 @@ use lib.Ieee.{Float, lt}
 use Rattle.floats.specs.Finite.{nought}
 use Rattle.floats.specs.Lists.{count}
 use Rattle.floats.specs.OneAnswer.{NoSecond}
-use Rattle.boxes.specs.Near.{isNear, Far}
+use Rattle.floats.specs.Numbers.{Point}
+use Rattle.floats.specs.Way.{Way}
+use Rattle.boxes.specs.Shared.{Corners}
+use Rattle.boxes.specs.Near.{cornersOfU, cornersOfV, isNear, Far}
 use Rattle.triangles.specs.declared.Answer.{Answer}
 use Rattle.triangles.specs.declared.Said.{Said}
 use Rattle.triangles.specs.declared.Decision.{Decision}
 use Rattle.triangles.specs.declared.Decision.the-variants.{Refused, Overlapping, Touching, Apart}
+use Rattle.triangles.specs.Pair.{vertexOf, cornerOf}
 use Rattle.triangles.specs.Refusals.{lengths, coordinates, firstOf}
 use Rattle.triangles.specs.Answers.{wholeOf}
 use Rattle.triangles.specs.Rows.{RefusedBy}
@@ -111,6 +115,13 @@ pub record ByBoxes (values : List Float) : Type 0 where
   pub near : (Far values → ⊥) → decisionOf values ≡ byRules values
   -- so wherever the decision is another than theirs the pair is far: on an axis every coordinate of one is below every coordinate of the other
   pub differs : (decisionOf values ≡ byRules values → ⊥) → Far values
+
+-- and the boxes are those of the very vertices that the triangle rules read
+abbrev pub verticesAt : (ℕ → Point Way) → Corners
+verticesAt at = record { x0 = at 0 .x .value; y0 = at 0 .y .value; x1 = at 1 .x .value; y1 = at 1 .y .value; x2 = at 2 .x .value; y2 = at 2 .y .value }
+
+abbrev pub SameVertices : Type 0
+SameVertices = (values : List Float) → (cornersOfU values ≡ verticesAt (vertexOf values)) × (cornersOfV values ≡ verticesAt (cornerOf values))
 
 abbrev pub BoxesFirst : Type 0
 BoxesFirst = (values : List Float) → ByBoxes values

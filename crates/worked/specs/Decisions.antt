@@ -139,6 +139,11 @@ boxed =
     -- with a corner in common, and nested
     ∷ refused 5 (triangle (pos 4) (pos 4) (pos 5) (pos 5) (pos 6) (pos 6) ++ v)
     ∷ refused 5 (triangle (pos 2) (pos 2) (pos 3) (pos 3) (pos 3) (pos 3) ++ v)
+    -- each vertex of V alone at an end of its box
+    ∷ refused 5 (triangle (negsuc 0) (pos 3) (pos 0) (pos 4) (pos 1) (pos 5) ++ triangle (pos 0) (pos 4) (pos 4) (pos 2) (pos 2) (pos 0))
+    ∷ refused 5 (triangle (pos 3) (negsuc 0) (pos 4) (pos 0) (pos 5) (pos 1) ++ triangle (pos 0) (pos 4) (pos 4) (pos 2) (pos 2) (pos 0))
+    ∷ refused 5 (triangle (negsuc 0) (pos 4) (pos 0) (pos 5) (pos 1) (pos 6) ++ triangle (pos 2) (pos 0) (pos 4) (pos 4) (pos 0) (pos 3))
+    ∷ refused 5 (triangle (pos 3) (pos 3) (pos 3) (pos 3) (pos 3) (pos 3) ++ triangle (pos 4) (pos 4) (pos 0) (pos 2) (pos 2) (pos 0))
     -- V flat, far and near
     ∷ far (triangle (pos 10) (pos 10) (pos 14) (pos 10) (pos 10) (pos 14) ++ flat) (number 3)
     ∷ refused 3 (triangle (pos 2) (pos 2) (pos 6) (pos 2) (pos 2) (pos 6) ++ flat)
