@@ -15,6 +15,22 @@ use Rattle.boxes.specs.Shared.{boxAround, In, AllFinite, SharedExactlyIf
 use Rattle.boxes.specs.Near.{cornersOfU, cornersOfV, isNear, TwelveFinite, Far, AllTwelve, BoxesTell}
 use Rattle.boxes.proofs.Points.{shared-points}
 
+pub all-twelve : AllTwelve
+all-twelve [] h = absurd (omega (arith, h))
+all-twelve (x0 ∷ []) h = absurd (omega (arith, h))
+all-twelve (x0 ∷ x1 ∷ []) h = absurd (omega (arith, h))
+all-twelve (x0 ∷ x1 ∷ x2 ∷ []) h = absurd (omega (arith, h))
+all-twelve (x0 ∷ x1 ∷ x2 ∷ x3 ∷ []) h = absurd (omega (arith, h))
+all-twelve (x0 ∷ x1 ∷ x2 ∷ x3 ∷ x4 ∷ []) h = absurd (omega (arith, h))
+all-twelve (x0 ∷ x1 ∷ x2 ∷ x3 ∷ x4 ∷ x5 ∷ []) h = absurd (omega (arith, h))
+all-twelve (x0 ∷ x1 ∷ x2 ∷ x3 ∷ x4 ∷ x5 ∷ x6 ∷ []) h = absurd (omega (arith, h))
+all-twelve (x0 ∷ x1 ∷ x2 ∷ x3 ∷ x4 ∷ x5 ∷ x6 ∷ x7 ∷ []) h = absurd (omega (arith, h))
+all-twelve (x0 ∷ x1 ∷ x2 ∷ x3 ∷ x4 ∷ x5 ∷ x6 ∷ x7 ∷ x8 ∷ []) h = absurd (omega (arith, h))
+all-twelve (x0 ∷ x1 ∷ x2 ∷ x3 ∷ x4 ∷ x5 ∷ x6 ∷ x7 ∷ x8 ∷ x9 ∷ []) h = absurd (omega (arith, h))
+all-twelve (x0 ∷ x1 ∷ x2 ∷ x3 ∷ x4 ∷ x5 ∷ x6 ∷ x7 ∷ x8 ∷ x9 ∷ x10 ∷ []) h = absurd (omega (arith, h))
+all-twelve (x0 ∷ x1 ∷ x2 ∷ x3 ∷ x4 ∷ x5 ∷ x6 ∷ x7 ∷ x8 ∷ x9 ∷ x10 ∷ x11 ∷ []) h = refl
+all-twelve (x0 ∷ x1 ∷ x2 ∷ x3 ∷ x4 ∷ x5 ∷ x6 ∷ x7 ∷ x8 ∷ x9 ∷ x10 ∷ x11 ∷ y ∷ l) h = absurd (omega (arith, h))
+
 module _ (l : List Float) (g : TwelveFinite l) where
   at : (k : ℕ) → k < 12 → finite (getD l k nan) ≡ true
   at k h = so (all-getD finite l k nan (all-of finite l (λ v m. os (g .allFinite v m))) (subst (λ n. k < n) (sym (g .twelve)) h))
@@ -66,19 +82,3 @@ module _ (l : List Float) (g : TwelveFinite l) where
 
 pub boxes-tell : BoxesTell
 boxes-tell l g = record { far = none l g; near = shared l g; point = point l g }
-
-pub all-twelve : AllTwelve
-all-twelve [] h = absurd (omega (arith, h))
-all-twelve (x0 ∷ []) h = absurd (omega (arith, h))
-all-twelve (x0 ∷ x1 ∷ []) h = absurd (omega (arith, h))
-all-twelve (x0 ∷ x1 ∷ x2 ∷ []) h = absurd (omega (arith, h))
-all-twelve (x0 ∷ x1 ∷ x2 ∷ x3 ∷ []) h = absurd (omega (arith, h))
-all-twelve (x0 ∷ x1 ∷ x2 ∷ x3 ∷ x4 ∷ []) h = absurd (omega (arith, h))
-all-twelve (x0 ∷ x1 ∷ x2 ∷ x3 ∷ x4 ∷ x5 ∷ []) h = absurd (omega (arith, h))
-all-twelve (x0 ∷ x1 ∷ x2 ∷ x3 ∷ x4 ∷ x5 ∷ x6 ∷ []) h = absurd (omega (arith, h))
-all-twelve (x0 ∷ x1 ∷ x2 ∷ x3 ∷ x4 ∷ x5 ∷ x6 ∷ x7 ∷ []) h = absurd (omega (arith, h))
-all-twelve (x0 ∷ x1 ∷ x2 ∷ x3 ∷ x4 ∷ x5 ∷ x6 ∷ x7 ∷ x8 ∷ []) h = absurd (omega (arith, h))
-all-twelve (x0 ∷ x1 ∷ x2 ∷ x3 ∷ x4 ∷ x5 ∷ x6 ∷ x7 ∷ x8 ∷ x9 ∷ []) h = absurd (omega (arith, h))
-all-twelve (x0 ∷ x1 ∷ x2 ∷ x3 ∷ x4 ∷ x5 ∷ x6 ∷ x7 ∷ x8 ∷ x9 ∷ x10 ∷ []) h = absurd (omega (arith, h))
-all-twelve (x0 ∷ x1 ∷ x2 ∷ x3 ∷ x4 ∷ x5 ∷ x6 ∷ x7 ∷ x8 ∷ x9 ∷ x10 ∷ x11 ∷ []) h = refl
-all-twelve (x0 ∷ x1 ∷ x2 ∷ x3 ∷ x4 ∷ x5 ∷ x6 ∷ x7 ∷ x8 ∷ x9 ∷ x10 ∷ x11 ∷ y ∷ l) h = absurd (omega (arith, h))

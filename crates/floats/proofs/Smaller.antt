@@ -86,7 +86,12 @@ three (fin s m e) (fin t n d) (fin r o c) fx fy fz =
     let C = o * up c * down d * down e in
     let mid = mul-right-comm (n * up d) (down c) (down e) in
     record {
-      s = s; a = A; t = t; b = B; r = r; c = C;
+      s = s;
+      a = A;
+      t = t;
+      b = B;
+      r = r;
+      c = C;
       xy = over s m e t n d (down c) (down-pos c);
       yx = over t n d s m e (down c) (down-pos c);
       yz = over t n d r o c (down e) (down-pos e) ∙ ap (λ x. below t x r C) mid;
