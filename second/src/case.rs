@@ -10,6 +10,14 @@ pub struct Case {
     pub room_length: usize,
 }
 
+/// With one NaN for all NaNs: a test program need not carry payloads.
+pub fn plain(mut case: Case) -> Case {
+    for value in case.values.iter_mut().filter(|value| value.is_nan()) {
+        *value = f64::from_bits(0x7ff8_0000_0000_0000);
+    }
+    case
+}
+
 #[derive(Clone, Copy, Debug)]
 pub struct Pair {
     pub u: [Point; 3],

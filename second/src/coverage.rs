@@ -7,7 +7,7 @@ use crate::exact::{common_to, Common};
 use crate::triangles::lines::{Parameters, Signs};
 use crate::triangles::numbers::{difference, Point};
 use crate::triangles::orders::{ends_of, lines_crossed, pair_test, Order};
-use crate::triangles::positions::{area_of, area_sum, crossing_position};
+use crate::triangles::positions::{self, area_of, area_sum, crossing_corner, RingCorner};
 use crate::triangles::ring::{Place, Ring};
 use crate::triangles::trace::Trace;
 use crate::triangles::Refusal;
@@ -66,11 +66,11 @@ impl Trace for Coverage {
         self.denominator_overflowed = true;
     }
 
-    fn fraction(&mut self, t: f64) {
-        self.t_was_minus_zero |= is_minus_zero(t);
-    }
-
-    fn position(&mut self, position: Point) {
+    fn corner(&mut self, corner: RingCorner) {
+        if let positions::Kind::Crossing { t, .. } = corner.kind {
+            self.t_was_minus_zero |= is_minus_zero(t);
+        }
+        let position = corner.position;
         self.position_had_minus_zero |= is_minus_zero(position.x) || is_minus_zero(position.y);
         self.positions.push(position);
     }
@@ -196,12 +196,33 @@ impl Coverage {
         }
         (0..3).any(|edge| {
             lines_crossed(edge, &self.signs).as_slice().iter().any(|&line| {
-                let mut tried = Coverage::default();
+                let tried = || self.overflow_at(u, edge, line);
                 !ring.as_slice().contains(&Place::Crossing { edge, line })
-                    && crossing_position(edge, line, u, &self.parameters, &self.signs, &mut tried).is_none()
-                    && tried.denominator_overflowed == by_denominator
+                    && tried().map_or(false, |tried| tried.denominator_overflowed == by_denominator)
             })
         })
+    }
+
+    /// Whether the place is a crossing whose position overflows, taken by itself.
+    pub fn has_no_position(&self, place: &Place) -> bool {
+        match (&self.ring, *place) {
+            (Some((u, _)), Place::Crossing { edge, line }) => self.overflow_at(u, edge, line).is_some(),
+            _ => false,
+        }
+    }
+
+    /// What a crossing without a position goes through; none where it has one.
+    fn overflow_at(&self, u: &[Point; 3], edge: usize, line: usize) -> Option<Coverage> {
+        let mut tried = Coverage::default();
+        match crossing_corner(edge, line, u, &self.parameters, &self.signs, &mut tried) {
+            Some(_) => None,
+            None => Some(tried),
+        }
+    }
+
+    /// Of a crossing: whether the edge starts at the end with plus on the line.
+    pub fn starts_with_plus(&self, edge: usize, line: usize) -> bool {
+        self.signs[ends_of(edge).0].plus(line)
     }
 
     /// The signs and orders packed into one number, where all three orders were decided.
@@ -226,6 +247,6 @@ impl Coverage {
     }
 }
 
-fn is_minus_zero(value: f64) -> bool {
+pub fn is_minus_zero(value: f64) -> bool {
     value == 0.0 && value.is_sign_negative()
 }

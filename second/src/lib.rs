@@ -1,9 +1,10 @@
-//! The rules for triangles, pair decisions, footprint files, leak lists and the writing of files, written
-//! once more and apart from the proved crates, with inputs to compare the two by.
+//! The rules for triangles, their corners, pair decisions, footprint files, leak lists and the writing of
+//! files, written once more and apart from the proved crates, with inputs to compare the two by.
 
 pub mod boxes;
 pub mod case;
 pub mod classes;
+pub mod corners;
 pub mod coverage;
 pub mod decision;
 pub mod drafts;

@@ -1,5 +1,6 @@
 //! The library under test, called as a C program would call it.
 
+use crate::corners::Corner;
 use crate::decision::Decision;
 use crate::footprint::{Entry, Verdict};
 use crate::leaks::List;
@@ -22,6 +23,7 @@ extern "C" {
     fn meskelow_intersect(values: *const f64, values_len: usize, room: *mut f64, room_len: usize)
         -> Returned;
     fn meskelow_decide(values: *const f64, values_len: usize) -> Decision;
+    fn meskelow_corner_at(values: *const f64, values_len: usize, place: usize) -> Corner;
     fn meskelow_check(file: *const u8, file_len: usize) -> Verdict;
     fn meskelow_recording(file: *const u8, file_len: usize, k: usize) -> Entry;
     fn meskelow_leaks(file: *const u8, file_len: usize, room: *mut u8, room_len: usize) -> List;
@@ -60,6 +62,17 @@ pub fn decide(values: &[f64]) -> Decision {
 pub fn decide_with_null(values: &[f64]) -> Decision {
     let input = if values.is_empty() { std::ptr::null() } else { values.as_ptr() };
     unsafe { meskelow_decide(input, values.len()) }
+}
+
+#[inline]
+pub fn corner_at(values: &[f64], place: usize) -> Corner {
+    unsafe { meskelow_corner_at(values.as_ptr(), values.len(), place) }
+}
+
+/// The same with NULL in the place of an empty slice.
+pub fn corner_at_with_null(values: &[f64], place: usize) -> Corner {
+    let input = if values.is_empty() { std::ptr::null() } else { values.as_ptr() };
+    unsafe { meskelow_corner_at(input, values.len(), place) }
 }
 
 #[inline]

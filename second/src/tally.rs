@@ -172,7 +172,7 @@ fn place_index(place: &Place) -> usize {
     }
 }
 
-fn place_name(index: usize) -> String {
+pub fn place_name(index: usize) -> String {
     match index {
         0..=2 => format!("U{index}"),
         3..=5 => format!("V{}", index - 3),

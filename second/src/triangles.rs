@@ -17,7 +17,7 @@ mod worked;
 use lines::{legs_of, parameters_of, signs_of, Legs};
 use numbers::{cross, Point};
 use orders::order_along;
-use positions::{area_of, place_corners, Corners};
+use positions::{area_of, place_corners, Positions};
 use ring::{corners_in_u, crossings_along, met_on_the_walk, neighbours_of, ring_of, vertices_in_v};
 use trace::Trace;
 
@@ -116,16 +116,16 @@ fn answer_of<T: Trace>(values: &[f64], room: &mut [f64], trace: &mut T) -> Resul
     trace.ring(&u, &ring);
 
     // The room is touched only after the last thing that can refuse.
-    let mut corners = Corners::new(Point { x: 0.0, y: 0.0 });
-    place_corners(&mut corners, &ring, &u, &v, &parameters, &signs, trace)
+    let mut positions = Positions::new(Point { x: 0.0, y: 0.0 });
+    place_corners(&mut positions, &ring, &u, &v, &parameters, &signs, trace)
         .ok_or(Refusal::OverflowAtPosition)?;
-    let area = area_of(corners.as_slice()).ok_or(Refusal::OverflowAtArea)?;
-    for (corner, pair) in corners.as_slice().iter().zip(room.chunks_exact_mut(2)) {
-        pair[0] = corner.x;
-        pair[1] = corner.y;
+    let area = area_of(positions.as_slice()).ok_or(Refusal::OverflowAtArea)?;
+    for (position, pair) in positions.as_slice().iter().zip(room.chunks_exact_mut(2)) {
+        pair[0] = position.x;
+        pair[1] = position.y;
     }
     let neighbour = neighbours_of(&crossings, v_in_u);
-    Ok(Answer { number: 0, n: corners.len() as u32, area, u_in_v, v_in_u, neighbour })
+    Ok(Answer { number: 0, n: positions.len() as u32, area, u_in_v, v_in_u, neighbour })
 }
 
 /// A triangle's legs and their cross, which is d or e; refused where it overflows or is zero.

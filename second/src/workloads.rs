@@ -5,6 +5,7 @@ pub mod tracks;
 
 use crate::case::{point, Pair};
 use crate::classes::ordinary;
+use crate::corners::Corner;
 use crate::drafts;
 use crate::files::draft::Draft;
 use crate::files::good;
@@ -19,6 +20,8 @@ pub type Values = [f64; 12];
 
 const SEED: u64 = 77;
 pub const NAMES: [&str; 3] = ["random", "strips", "far"];
+/// Pairs of which one corner each is asked for.
+pub const CORNERS: [&str; 2] = ["corner-random", "corner-strips"];
 /// A file to judge, and the same one to write.
 pub const FILE: &str = "file";
 pub const WRITE: &str = "write";
@@ -36,6 +39,18 @@ pub fn pairs(name: &str, count: usize) -> Option<Vec<Values>> {
     Some(all.iter().map(|pair| pair.values().try_into().expect("a pair has twelve values")).collect())
 }
 
+/// The pairs of the workload that is named behind the dash.
+pub fn pairs_with_corners(name: &str, count: usize) -> Option<Vec<Values>> {
+    name.strip_prefix("corner-").and_then(|name| pairs(name, count))
+}
+
+/// Which corner is asked for. Most rings have four or fewer, and a corner that is not there costs what
+/// another does.
+#[inline]
+pub fn place_of(pair: usize) -> usize {
+    pair % 4
+}
+
 /// The same value, but one the compiler cannot foresee and has to have computed. What is called
 /// with it stands in another crate or in the library and hides its effects by itself.
 /// (`std::hint::black_box` is newer than the oldest compiler in use.)
@@ -49,6 +64,15 @@ pub fn unforeseen<T: Copy>(value: T) -> T {
 #[inline]
 pub fn fold(sum: u64, number: u32, n: u32, area: f64) -> u64 {
     sum.rotate_left(7) ^ area.to_bits().wrapping_add(u64::from(number) << 8 | u64::from(n))
+}
+
+/// Hardly more than for an answer, so that the two can be compared.
+#[inline]
+pub fn fold_corner(sum: u64, corner: Corner) -> u64 {
+    let Corner { number, kind, which, edge, line, t, x, y } = corner;
+    let whole = number << 16 | kind << 12 | which << 8 | edge << 4 | line;
+    let position = x.to_bits().rotate_left(21) ^ y.to_bits();
+    sum.rotate_left(7) ^ (t.to_bits() ^ position).wrapping_add(u64::from(whole))
 }
 
 #[inline]

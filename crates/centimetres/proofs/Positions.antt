@@ -20,7 +20,7 @@ use Rattle.lines.specs.Lines.{start, finish}
 use Rattle.lines.specs.Parameters.{parameter}
 use Rattle.ring.specs.Places.{Place, vertex, corner, crossing, fifteen}
 use Rattle.triangles.specs.Pair.{signsBy, ringOf}
-use Rattle.triangles.specs.Positions.{crossingAt, positionOf, ringPositions, cornerAt}
+use Rattle.triangles.specs.Positions.{Placed, crossingFrom, placedAt, positionOf, ringPositions, cornerAt}
 use Rattle.triangles.specs.Refusals.{positionsWay}
 use Rattle.triangles.proofs.Demand.{inRange as hasNumbers, fifteen-in-range, sound}
 use Rattle.centimetres.proofs.Ways.{Under, Whole, under-plus, under-times, under-divided, under-more, under-given, whole-minus, whole-under}
@@ -55,9 +55,9 @@ other-way false true t = tt
 other-way false false t = t
 
 module _ {zs : List ℤ} (h : Twelve zs) where
-  crossing-near : (a i j : ℕ) → a < 3 → i < 3 → j < 3 → T (differ (signsBy (values zs) i a) (signsBy (values zs) j a)) → Near (crossingAt (values zs) a i j)
-  unfolding crossingAt
-  crossing-near a i j A I J t =
+  crossing-near : (e a i j : ℕ) → a < 3 → i < 3 → j < 3 → T (differ (signsBy (values zs) i a) (signsBy (values zs) j a)) → Near (crossingFrom (values zs) e a i j .position)
+  unfolding crossingFrom
+  crossing-near e a i j A I J t =
       let n = apart (parameter (numbersAt zs i) a) (parameter (numbersAt zs j) a) (subst T (ap₂ differ (sign-at h i a I A) (sign-at h j a J A)) t) in
       let p = parameter-at h i a I in
       let f = under-divided (whole-under 45 p (lit< tt)) (whole-minus p (parameter-at h j a J) (lit≤ tt)) n (lit≤ tt) in
@@ -66,17 +66,17 @@ module _ {zs : List ℤ} (h : Twelve zs) where
       record { x = between-under f (P .x) (Q .x); y = between-under f (P .y) (Q .y) }
 
   place-near : (p : Place) → T (hasNumbers p) → List·Memᴰ p (ringOf (values zs)) → Near (positionOf (values zs) p)
-  unfolding positionOf hasNumbers
+  unfolding placedAt hasNumbers
   place-near (vertex i) r m = let b : i < 3 = ltb→lt i 3 r in point-near (point-whole h i (omega arith))
   place-near (corner k) r m = let b : k < 3 = ltb→lt k 3 r in point-near (point-whole h (3 + k) (omega arith))
   place-near (crossing e a) r m =
       let A = ltb→lt a 3 (and-r (ltb e 3) (ltb a 3) r) in
-      go (signsBy (values zs) (start e) a) (crossing-near a (start e) (finish e) A (ends e 0) (ends e 1) (crossed (values zs) e a m))
-      (crossing-near a (finish e) (start e) A (ends e 1) (ends e 0) (other-way (signsBy (values zs) (start e) a) (signsBy (values zs) (finish e) a) (crossed (values zs) e a m)))
+      go (crossingFrom (values zs) e a (start e) (finish e)) (crossingFrom (values zs) e a (finish e) (start e)) (signsBy (values zs) (start e) a) (crossing-near e a (start e) (finish e) A (ends e 0) (ends e 1) (crossed (values zs) e a m))
+      (crossing-near e a (finish e) (start e) A (ends e 1) (ends e 0) (other-way (signsBy (values zs) (start e) a) (signsBy (values zs) (finish e) a) (crossed (values zs) e a m)))
     where
-      go : {c d : Point Way} (b : Bool) → Near c → Near d → Near (cond b c d)
-      go true h k = h
-      go false h k = k
+      go : (c d : Placed) (b : Bool) → Near (c .position) → Near (d .position) → Near (cond b c d .position)
+      go c d true h k = h
+      go c d false h k = k
 
   pub position-near : (p : Place) → List·Memᴰ p (ringOf (values zs)) → Near (positionOf (values zs) p)
   unfolding ringOf

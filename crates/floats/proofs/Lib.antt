@@ -8,3 +8,4 @@ pub mod OneAnswer
 pub mod Smaller
 pub mod Sums
 pub mod Turns
+pub mod Fractions

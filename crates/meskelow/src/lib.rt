@@ -1,6 +1,7 @@
 // The functions that programs in other languages call; include/meskelow.h declares them.
 ghost use Rattle.triangles.specs.Promise.{PairPromise};
 ghost use Rattle.triangles.specs.Decision.{SaidOf};
+ghost use Rattle.corners.specs.Promise.{CornerPromise};
 ghost use Rattle.layout.specs.Promise.{Checked, Recorded};
 ghost use Rattle.filing.specs.Given.{givenOf};
 ghost use Rattle.filing.specs.Promise.{WritePromise};
@@ -20,6 +21,14 @@ pub extern "C" fn meskelow_decide(values: &[f64]) -> triangles::Said
     ensures { λ r. ⌜ SaidOf (now (values .entry)) r ⌝ }
 {
     routine::decide(values)
+}
+
+// Two triangles, U0x, U0y, .. V2y, and a place in their ring: the corner that stands there, with its kind, or a refusal's number with zeros.
+#[no_mangle]
+pub extern "C" fn meskelow_corner_at(values: &[f64], place: usize) -> corners::Told
+    ensures { λ r. ⌜ CornerPromise (now (values .entry)) place r ⌝ }
+{
+    routine::corner_at(values, place)
 }
 
 // A file's bytes: number 0 and place 0 if it has the layout of a footprint file, else the refusal and its place.

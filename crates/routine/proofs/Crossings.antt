@@ -1,4 +1,4 @@
--- What the code lays down for the ring's places is where the rules put them, and its test of the denominators, with that of the area, is the rows of the
+-- What the code has of the ring's places are the corners that the rules put there, and its test of the denominators, with that of the area, is the rows of the
 -- positions and of the area: a finite area has finite corners, and a finite corner has a finite way but for its t's denominator. Assumes nothing.
 use mathlib.Core.Path.{_≡_, refl, sym, ap, ap₂, _∙_}
 use mathlib.Core.Bool.{Bool, true, false, _&&_, cond}
@@ -20,11 +20,14 @@ use Rattle.lines.specs.declared.Params.{Params}
 use Rattle.lines.specs.Parameters.{parameter, carried}
 use Rattle.lines.proofs.Tables.{small, entry-below}
 use Rattle.ring.specs.Places.{Place, vertex, corner, crossing}
-use Rattle.crossings.specs.declared.Spot.{Spot}
+use Rattle.triangles.specs.declared.Kind.the-variants.{Crossing}
+use Rattle.triangles.specs.declared.Corner.{Corner}
 use Rattle.triangles.specs.Pair.{vertexOf, paramsOf, carriedBy, vertexSigns, signsBy}
-use Rattle.triangles.specs.Positions.{fraction, between, crossingAt, positionOf, valuesOfCorners}
+use Rattle.triangles.specs.Positions.{Placed, fraction, between, crossingFrom, placedAt, positionOf, valuesOfCorners}
 use Rattle.triangles.specs.Refusals.{positionsWay}
-use Rattle.crossings.specs.Crossing.{spotOn}
+use Rattle.corners.specs.Corners.{valued}
+use Rattle.crossings.specs.Crossing.{crossedOn}
+use Rattle.routine.specs.declared.spots.Spot.{Spot}
 use Rattle.routine.specs.Code.{paramsAt, crossSpot, crossOf, spotOf}
 
 -- ---- one operation's way
@@ -95,16 +98,15 @@ module _ (l : List Float) where
       go false true = refl
       go false false = refl
 
-  -- a spot stands where the rules put its place; and the denominator's test
-  pub record Stands (s : Spot) (c : Point Way) : Type 0 where
-    pub x : s .x ≡ c .x .value
-    pub y : s .y ≡ c .y .value
-    pub fine-way : s .fine ≡ true → FinitePoint c → (fine (c .x) && fine (c .y)) ≡ true
-    pub way-fine : (fine (c .x) && fine (c .y)) ≡ true → s .fine ≡ true
+  -- a spot has the corner that the rules put at its place; and the denominator's test
+  pub record Stands (s : Spot) (c : Placed) : Type 0 where
+    pub corner-is : s .corner ≡ valued c
+    pub fine-way : s .fine ≡ true → FinitePoint (c .position) → (fine (c .position .x) && fine (c .position .y)) ≡ true
+    pub way-fine : (fine (c .position .x) && fine (c .position .y)) ≡ true → s .fine ≡ true
 
-  crossing-stands : (a i j : ℕ) → i < 3 → j < 3 → Stands (crossOf l params a i j) (crossingAt l a i j)
-  unfolding crossSpot spotOn crossingAt all
-  crossing-stands a i j hi hj =
+  crossing-stands : (e a i j : ℕ) → i < 3 → j < 3 → Stands (crossOf l params e a i j) (crossingFrom l e a i j)
+  unfolding crossSpot crossedOn crossingFrom all
+  crossing-stands e a i j hi hj =
       let aP = parameter (carriedBy l i) a in
       let aQ = parameter (carriedBy l j) a in
       let P = vertexOf l i in
@@ -113,9 +115,9 @@ module _ (l : List Float) where
       let fq = fine-carried j a in
       let vi : parameter (carried (paramsAt params i)) a .value ≡ aP .value = ap (λ p. parameter (carried p) a .value) (params-at i hi) in
       let vj : parameter (carried (paramsAt params j)) a .value ≡ aQ .value = ap (λ p. parameter (carried p) a .value) (params-at j hj) in
+      let by : Float → Float → Corner = λ p q. let t = fraction (given p) (given q) in record { kind = Crossing e a (t .value); x = between t P Q .x .value; y = between t P Q .y .value } in
       record {
-        x = ap₂ (λ p q. between (fraction (given p) (given q)) P Q .x .value) vi vj;
-        y = ap₂ (λ p q. between (fraction (given p) (given q)) P Q .y .value) vi vj;
+        corner-is = ap₂ by vi vj;
         fine-way = λ m h.
             let d = sym (ap₂ (λ p q. finite ((given p ⊖ given q) .value)) vi vj) ∙ m in
             ap₂ _&&_ (component-fine aP aQ (P .x) (Q .x) fp fq refl refl d (h .0)) (component-fine aP aQ (P .y) (Q .y) fp fq refl refl d (h .1));
@@ -124,15 +126,15 @@ module _ (l : List Float) where
             ∙ denominator-fine aP aQ (P .x) (Q .x) fp fq refl refl (so (and-l (fine (between (fraction aP aQ) P Q .x)) (fine (between (fraction aP aQ) P Q .y)) (os h)));
       }
 
-  pub stands : (p : Place) → Stands (spot p) (positionOf l p)
-  unfolding spotOf positionOf all
-  stands (vertex i) = record { x = refl; y = refl; fine-way = λ m h. refl; way-fine = λ h. refl }
-  stands (corner k) = record { x = refl; y = refl; fine-way = λ m h. refl; way-fine = λ h. refl }
+  pub stands : (p : Place) → Stands (spot p) (placedAt l p)
+  unfolding spotOf placedAt all
+  stands (vertex i) = record { corner-is = refl; fine-way = λ m h. refl; way-fine = λ h. refl }
+  stands (corner k) = record { corner-is = refl; fine-way = λ m h. refl; way-fine = λ h. refl }
   stands (crossing e a) = go (signsBy l (start e) a)
     where
-      go : (b : Bool) → Stands (cond b (crossOf l params a (start e) (finish e)) (crossOf l params a (finish e) (start e))) (cond b (crossingAt l a (start e) (finish e)) (crossingAt l a (finish e) (start e)))
-      go true = crossing-stands a (start e) (finish e) (end-below e 0) (end-below e 1)
-      go false = crossing-stands a (finish e) (start e) (end-below e 1) (end-below e 0)
+      go : (b : Bool) → Stands (cond b (crossOf l params e a (start e) (finish e)) (crossOf l params e a (finish e) (start e))) (cond b (crossingFrom l e a (start e) (finish e)) (crossingFrom l e a (finish e) (start e)))
+      go true = crossing-stands e a (start e) (finish e) (end-below e 0) (end-below e 1)
+      go false = crossing-stands e a (finish e) (start e) (end-below e 1) (end-below e 0)
 
   -- ---- of several places
   abbrev pub spotFine : Place → Bool

@@ -27,17 +27,17 @@ use Rattle.triangles.specs.Positions.{positionOf, ringPositions, valuesOfCorner
 use Rattle.triangles.specs.Refusals.{wayToPairTest, wayToPosition, wayToArea, positionsWay, testsWay, wayOf, refusalOf}
 use Rattle.triangles.specs.Answers.{refusal, answerOf, written, answered}
 use Rattle.triangles.specs.Promise.{PairPromise}
+use Rattle.corners.specs.Corners.{cornerAt}
 use Rattle.front.specs.Front.{clearBy, beyondBy}
-use Rattle.routine.specs.Code.{positionAt, frontOf, spotsTo, fineTo, areaBy}
+use Rattle.routine.specs.Code.{positionAt, frontOf, spotAt, spotsTo, fineTo, areaBy}
 use Rattle.triangles.proofs.Demand.{sound}
-use Rattle.triangles.proofs.Rest.{ring-fits}
 use Rattle.triangles.proofs.Rows.{answered-is}
 use Rattle.triangles.proofs.Told.{told-area}
 use Rattle.routine.proofs.Cascade.{backFine, short, by-front, back-fine, back-not-fine, keeps-refusal}
 use Rattle.routine.proofs.Front.{by-clear}
 use Rattle.routine.proofs.Edges.{signs-are, befores-are, tests-fine, ring-is, beyond-nothing, beyond-untested}
 use Rattle.routine.proofs.Crossings.{params, spotFine, ways-fine, fine-ways}
-use Rattle.routine.proofs.Laid.{all-laid, all-fine, area-is, no-area, area-corners}
+use Rattle.routine.proofs.Laid.{corner-laid, all-laid, all-fine, area-is, no-area, area-corners}
 
 no-values : all finite (valuesOfCorners []) ≡ true
 unfolding valuesOfCorners all
@@ -105,9 +105,6 @@ module _ (l room : List Float) (n : length l ≡ 12) (m : 12 ≤ length room) (f
   unfolding ringOf
   count = is .counted
 
-  pub n-fits : r .n ≤ 6
-  n-fits = subst (λ k. k ≤ 6) (sym count) (ring-fits l room)
-
   codes : take (length (ringOf l)) (map (λ c. c .code) (r .places)) ≡ map codeOf (ringOf l)
   unfolding ringOf
   codes = ap (λ k. take k (map (λ c. c .code) (r .places))) (sym count) ∙ is .codes
@@ -128,6 +125,11 @@ module _ (l room : List Float) (n : length l ≡ 12) (m : 12 ≤ length room) (f
   within : (p : Place) → List·Memᴰ p (ringOf l) → List·Memᴰ p fifteen
   unfolding ringOf
   within = sound l .holds .nothingElse
+
+  -- each of the code's places is that of the ring
+  pub corner-kept : (k : ℕ) → k < r .n → spotAt l (params l) (vertexSigns l) (r .places) k .corner ≡ cornerAt l k
+  unfolding cornerAt
+  corner-kept k h = corner-laid l (ringOf l) within (r .places) codes enough k (omega (arith, h, count))
 
   size : NoneOrThreeToSix (length (ringOf l))
   unfolding ringOf
@@ -203,8 +205,8 @@ module _ (l room : List Float) (ps : List Params) (ss bs : List (List Bool)) (kn
   same-ring : w ≡ codeRing (vertexSigns l) (befores (edgeOrders l))
   same-ring = hw ∙ ap₂ codeRing (named .1) (named .2)
 
-  pub at-most-six : w .n ≤ 6
-  at-most-six = n-fits l room (known .0) (known .1) (known .2) (known .3) w same-ring
+  pub place-kept : (k : ℕ) → k < w .n → spotAt l (params l) (vertexSigns l) (w .places) k .corner ≡ cornerAt l k
+  place-kept = corner-kept l room (known .0) (known .1) (known .2) (known .3) w same-ring
 
   module _ (xy : List Float) (ok is-fine : Bool) (area : Float) (corners : (take (2 * w .n) xy ≡ spotsTo l ps ss (w .places) (w .n)) × (ok ≡ fineTo l ps ss (w .places) (w .n))) (ha : area ≡ areaBy xy (w .n)) (hf : is-fine ≡ finite area) where
     laid : take (2 * w .n) xy ≡ spotsTo l (params l) (vertexSigns l) (w .places) (w .n)

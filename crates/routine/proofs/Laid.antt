@@ -20,7 +20,8 @@ use Rattle.walk.specs.declared.PlaceCode.{PlaceCode}
 use Rattle.walk.specs.Code.{codeOf, placeOfCode, coded}
 use Rattle.walk.proofs.Beyond.{decoded}
 use Rattle.triangles.specs.Pair.{vertexSigns}
-use Rattle.triangles.specs.Positions.{positionOf, valuesOfCorners, cornerAt, sumTo, half, areaOf}
+use Rattle.triangles.specs.Positions.{placedAt, positionOf, valuesOfCorners, cornerAt, sumTo, half, areaOf}
+use Rattle.corners.specs.Corners.{valued}
 use Rattle.routine.specs.Code.{positionAt, spotOf, spotAt, spotsTo, fineTo, sumBy, areaBy}
 use Rattle.routine.proofs.Crossings.{params, spot, spotFine, stands}
 
@@ -63,13 +64,17 @@ module _ (l : List Float) (ps : List Place) (within : (p : Place) → List·Mem�
   spot-at : (k : ℕ) → k < length ps → spotAt l (params l) ss places k ≡ spot l (getD ps k (vertex 0))
   spot-at k h = ap (spotOf l (params l) ss) (place-at k h)
 
+  -- the corner at place k
+  pub corner-laid : (k : ℕ) → k < length ps → spotAt l (params l) ss places k .corner ≡ valued (placedAt l (getD ps k (vertex 0)))
+  corner-laid k h = ap (λ s. s .corner) (spot-at k h) ∙ stands l (getD ps k (vertex 0)) .corner-is
+
   laid-to : (m : ℕ) → m ≤ length ps → spotsTo l (params l) ss places m ≡ valuesOfCorners (map (positionOf l) (take m ps))
   unfolding spotsTo valuesOfCorners
   laid-to zero h = refl
   laid-to (suc m) h =
       let p = getD ps m (vertex 0) in
       let s = spot-at m h in
-      ap₂ _++_ (laid-to m (omega (arith, h))) (ap₂ (λ x y. x ∷ y ∷ []) (ap (λ s. s .x) s ∙ stands l p .x) (ap (λ s. s .y) s ∙ stands l p .y))
+      ap₂ _++_ (laid-to m (omega (arith, h))) (ap (λ c. c .x ∷ c .y ∷ []) (ap (λ s. s .corner) s ∙ stands l p .corner-is))
       ∙ sym (ap (λ q. valuesOfCorners (map (positionOf l) q)) (take-suc ps m (vertex 0) h)
       ∙ (ap valuesOfCorners (map-append (positionOf l) (take m ps) (p ∷ [])) ∙ values-append (map (positionOf l) (take m ps)) (positionOf l p ∷ [])))
 

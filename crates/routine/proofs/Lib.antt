@@ -10,3 +10,4 @@ pub mod Steps
 pub mod Kept
 pub mod Shapes
 pub mod Decisions
+pub mod Asked

@@ -21,10 +21,9 @@ use Rattle.edges.specs.Code.{tested, orderBy}
 use Rattle.walk.specs.declared.Ring.{Ring}
 use Rattle.walk.specs.Code.{flagsAndRing}
 use Rattle.walk.proofs.Most.{six-at-most}
-use Rattle.triangles.specs.declared.Answer.{Answer}
-use Rattle.triangles.specs.Answers.{refusal, written}
 use Rattle.front.specs.Front.{numberBy}
-use Rattle.routine.specs.Code.{positionAt, spotsTo, fineTo, sumBy, areaBy, Outcome, Leaves, outcomeRefused, answeredWith, placedAs, orderedBy, settledBy}
+use Rattle.routine.specs.declared.Found.{Found}
+use Rattle.routine.specs.Code.{positionAt, spotsTo, fineTo, sumBy, areaBy, Outcome, Finds, outcomeRefused, answeredWith, placedAs, orderedBy, settledBy}
 
 -- ---- the area of n corners looks at their values only
 cross-of : {a b c x y z : Position} → a ≡ x → b ≡ y → c ≡ z → crossFrom f64 (at a) (at b) (at c) .value ≡ crossFrom f64 (at x) (at y) (at z) .value
@@ -50,12 +49,12 @@ module _ (xy : List Float) (n : ℕ) where
 pub ring-fits : (ss bs : List (List Bool)) {w : Ring} → w ≡ flagsAndRing ss bs → w .n ≤ 6
 ring-fits ss bs h = subst (λ v. v .n ≤ 6) (sym h) (six-at-most ss bs)
 
--- a refusal leaves the room as it was
-pub refusal-leaves : {o : Outcome} {answer : Answer} (k : ℕ) (room : List Float) → o ≡ outcomeRefused k room → answer ≡ refusal k → Leaves o answer room
-refusal-leaves k room h e = record { result-is = e ∙ ap (λ o. o .answer) (sym h); after-is = ap (λ o. o .room) (sym h) }
+-- nothing found, with a number
+pub finds-nothing : {o : Outcome} {f : Found} (k : ℕ) → o ≡ outcomeRefused k → Finds (outcomeRefused k) f → Finds o f
+finds-nothing {o} {f} k h = subst (λ o. Finds o f) (sym h)
 
 -- ---- from the ring on
-module _ (l room : List Float) (ps : List Params) (ss : List (List Bool)) (w : Ring) (xy : List Float) (ok is-fine : Bool) (area : Float) (corners : (take (2 * w .n) xy ≡ spotsTo l ps ss (w .places) (w .n)) × (ok ≡ fineTo l ps ss (w .places) (w .n))) (ha : area ≡ areaBy xy (w .n)) (hf : is-fine ≡ finite area) where
+module _ (l : List Float) (ps : List Params) (ss : List (List Bool)) (w : Ring) (xy : List Float) (ok is-fine : Bool) (area : Float) (corners : (take (2 * w .n) xy ≡ spotsTo l ps ss (w .places) (w .n)) × (ok ≡ fineTo l ps ss (w .places) (w .n))) (ha : area ≡ areaBy xy (w .n)) (hf : is-fine ≡ finite area) where
   abbrev spots : List Float
   spots = spotsTo l ps ss (w .places) (w .n)
 
@@ -65,47 +64,47 @@ module _ (l room : List Float) (ps : List Params) (ss : List (List Bool)) (w : R
   test-is : {b : Bool} → (ok && is-fine) ≡ b → (fineTo l ps ss (w .places) (w .n) && finite (areaBy spots (w .n))) ≡ b
   test-is h = sym (ap₂ _&&_ (corners .1) (hf ∙ ap finite area-is)) ∙ h
 
-  pub answer-leaves : {after : List Float} {v : Ring} → w ≡ v → (ok && is-fine) ≡ true → after ≡ written (take (2 * w .n) xy) room → Leaves (placedAs l room ps ss v) (answeredWith w area after .answer) after
-  answer-leaves {after} hw h e = subst (λ v. Leaves (placedAs l room ps ss v) (answeredWith w area after .answer) after) hw here
+  abbrev found : Found
+  found = record { answer = answeredWith w area spots .answer; places = w .places; xy = xy }
+
+  pub finds-ring : {v : Ring} → w ≡ v → w .n ≤ 6 → (ok && is-fine) ≡ true → Finds (placedAs l ps ss v) found
+  finds-ring hw six h = subst (λ v. Finds (placedAs l ps ss v) found) hw (subst (λ o. Finds o found) is here)
     where
-      is : answeredWith w (areaBy spots (w .n)) (written spots room) ≡ placedAs l room ps ss w
-      is = (unfold placedAs in taken (outcomeRefused 4 room) (test-is h) refl)
+      is : answeredWith w (areaBy spots (w .n)) spots ≡ placedAs l ps ss w
+      is = (unfold placedAs in taken (outcomeRefused 4) (test-is h) refl)
 
-      here : Leaves (placedAs l room ps ss w) (answeredWith w area after .answer) after
-      here = record {
-        result-is = ap (λ a. answeredWith w a after .answer) area-is ∙ ap (λ o. o .answer) is;
-        after-is = e ∙ (ap (λ v. written v room) (corners .0) ∙ ap (λ o. o .room) is);
-      }
+      here : Finds (answeredWith w (areaBy spots (w .n)) spots) found
+      here = record { answer-is = ap (λ a. answeredWith w a spots .answer) area-is; corners-are = corners .0; places-are = refl; atMostSix = six }
 
-  pub late-leaves : {answer : Answer} {v : Ring} → w ≡ v → (ok && is-fine) ≡ false → answer ≡ refusal 4 → Leaves (placedAs l room ps ss v) answer room
-  late-leaves {answer} hw h e = subst (λ v. Leaves (placedAs l room ps ss v) answer room) hw (refusal-leaves 4 room (unfold placedAs in sym (left (answeredWith w (areaBy spots (w .n)) (written spots room)) (test-is h) refl)) e)
+  pub finds-late : {f : Found} {v : Ring} → w ≡ v → (ok && is-fine) ≡ false → Finds (outcomeRefused 4) f → Finds (placedAs l ps ss v) f
+  finds-late {f} hw h e = subst (λ v. Finds (placedAs l ps ss v) f) hw (finds-nothing 4 (unfold placedAs in sym (left (answeredWith w (areaBy spots (w .n)) spots) (test-is h) refl)) e)
 
 -- ---- from the parameters on
-module _ (l room : List Float) (p q r : Params) (s t u : List Bool) (hs : s ≡ signsOf p) (ht : t ≡ signsOf q) (hu : u ≡ signsOf r) (a b c : Order) (ha : a ≡ orderBy (tested p q s) s t) (hb : b ≡ orderBy (tested q r t) t u) (hc : c ≡ orderBy (tested p r s) s u) where
+module _ (l : List Float) (p q r : Params) (s t u : List Bool) (hs : s ≡ signsOf p) (ht : t ≡ signsOf q) (hu : u ≡ signsOf r) (a b c : Order) (ha : a ≡ orderBy (tested p q s) s t) (hb : b ≡ orderBy (tested q r t) t u) (hc : c ≡ orderBy (tested p r s) s u) where
   abbrev fine : Bool
   fine = a .fine && (b .fine && c .fine)
 
   abbrev placed : Outcome
-  placed = placedAs l room (p ∷ q ∷ r ∷ []) (s ∷ t ∷ u ∷ []) (flagsAndRing (s ∷ t ∷ u ∷ []) (a .before ∷ b .before ∷ c .before ∷ []))
+  placed = placedAs l (p ∷ q ∷ r ∷ []) (s ∷ t ∷ u ∷ []) (flagsAndRing (s ∷ t ∷ u ∷ []) (a .before ∷ b .before ∷ c .before ∷ []))
 
-  ordered : {f : Bool} → fine ≡ f → orderedBy l room p q r ≡ cond f placed (outcomeRefused 4 room)
+  ordered : {f : Bool} → fine ≡ f → orderedBy l p q r ≡ cond f placed (outcomeRefused 4)
   unfolding orderedBy
   ordered h = rw (sym h, ha, hb, hc, hs, ht, hu) refl
 
-  pub orders-leave : {answer : Answer} {after : List Float} → fine ≡ true → Leaves placed answer after → Leaves (orderedBy l room p q r) answer after
-  orders-leave {answer} {after} h = subst (λ o. Leaves o answer after) (sym (ordered h))
+  pub orders-find : {f : Found} → fine ≡ true → Finds placed f → Finds (orderedBy l p q r) f
+  orders-find {f} h = subst (λ o. Finds o f) (sym (ordered h))
 
-  pub tests-leave : {answer : Answer} → fine ≡ false → answer ≡ refusal 4 → Leaves (orderedBy l room p q r) answer room
-  tests-leave h = refusal-leaves 4 room (ordered h)
+  pub tests-find : {f : Found} → fine ≡ false → Finds (outcomeRefused 4) f → Finds (orderedBy l p q r) f
+  tests-find h = finds-nothing 4 (ordered h)
 
 -- ---- from d, e and the parameters on
-module _ (l room : List Float) (d e : Float) (p q r : Params) (k : ℕ) (hk : k ≡ numberBy l d e p q r) where
-  settled : (zero? : Bool) → eqb k 0 ≡ zero? → settledBy l room d e p q r ≡ cond zero? (orderedBy l room p q r) (outcomeRefused k room)
+module _ (l : List Float) (d e : Float) (p q r : Params) (k : ℕ) (hk : k ≡ numberBy l d e p q r) where
+  settled : (zero? : Bool) → eqb k 0 ≡ zero? → settledBy l d e p q r ≡ cond zero? (orderedBy l p q r) (outcomeRefused k)
   unfolding settledBy
   settled z h = rw (sym h, hk) refl
 
-  pub rest-leaves : {answer : Answer} {after : List Float} → k ≡ 0 → Leaves (orderedBy l room p q r) answer after → Leaves (settledBy l room d e p q r) answer after
-  rest-leaves {answer} {after} z = subst (λ o. Leaves o answer after) (sym (settled true (eq-eqb k 0 z)))
+  pub rest-finds : {f : Found} → k ≡ 0 → Finds (orderedBy l p q r) f → Finds (settledBy l d e p q r) f
+  rest-finds {f} z = subst (λ o. Finds o f) (sym (settled true (eq-eqb k 0 z)))
 
-  pub row-leaves : {answer : Answer} → (k ≡ 0 → ⊥) → answer ≡ refusal k → Leaves (settledBy l room d e p q r) answer room
-  row-leaves z = refusal-leaves k room (settled false (ne-eqb k 0 z))
+  pub row-finds : {f : Found} → (k ≡ 0 → ⊥) → Finds (outcomeRefused k) f → Finds (settledBy l d e p q r) f
+  row-finds z = finds-nothing k (settled false (ne-eqb k 0 z))

@@ -15,7 +15,7 @@ use Rattle.floats.specs.declared.Position.{Position}
 use Rattle.lines.specs.declared.Params.{Params}
 use Rattle.walk.specs.declared.PlaceCode.{PlaceCode}
 use Rattle.triangles.specs.Answers.{written}
-use Rattle.crossings.specs.declared.Spot.{Spot}
+use Rattle.routine.specs.declared.spots.Spot.{Spot}
 use Rattle.routine.specs.Code.{positionAt, spotAt, spotsTo, fineTo, sumBy}
 
 -- ---- two values laid
@@ -29,9 +29,9 @@ two-laid xs i x y {vs} h e =
     ∙ (ap (λ k. take k once ++ (y ∷ [])) m ∙ (ap (λ l. l ++ (y ∷ [])) (take-suc-set xs (2 * i) x (omega (arith, h)) ∙ ap (λ l. l ++ (x ∷ [])) e) ∙ append-snoc vs x (y ∷ []))))
 
 module _ (l : List Float) (ps : List Params) (ss : List (List Bool)) (places : List PlaceCode) (i : ℕ) (spot : Spot) (h : spot ≡ spotAt l ps ss places i) where
-  pub one-laid : (xs : List Float) → 2 * i + 1 < length xs → take (2 * i) xs ≡ spotsTo l ps ss places i → take (2 * (i + 1)) (set (set xs (2 * i) (spot .x)) (2 * i + 1) (spot .y)) ≡ spotsTo l ps ss places (i + 1)
+  pub one-laid : (xs : List Float) → 2 * i + 1 < length xs → take (2 * i) xs ≡ spotsTo l ps ss places i → take (2 * (i + 1)) (set (set xs (2 * i) (spot .corner .x)) (2 * i + 1) (spot .corner .y)) ≡ spotsTo l ps ss places (i + 1)
   unfolding spotsTo
-  one-laid xs f e = two-laid xs i (spot .x) (spot .y) f e ∙ rw (h, add-one i) refl
+  one-laid xs f e = two-laid xs i (spot .corner .x) (spot .corner .y) f e ∙ rw (h, add-one i) refl
 
   pub one-fine : {fine : Bool} → fine ≡ fineTo l ps ss places i → (fine && spot .fine) ≡ fineTo l ps ss places (i + 1)
   unfolding fineTo

@@ -1,4 +1,4 @@
-// The routine: from twelve values and a lent room to the answer of two triangles.
+// The routine: from twelve values to the answer of two triangles, with its corners in a lent room; to one of these corners; to what is decided of the pair.
 mod spots;
 
 ghost use mathlib.Core.Path.{_≡_};
@@ -8,8 +8,10 @@ ghost use Rattle.walk.specs.Code.{flagsAndRing};
 ghost use Rattle.triangles.specs.Answers.{refusal, written};
 ghost use Rattle.triangles.specs.Promise.{PairPromise};
 ghost use Rattle.triangles.specs.Decision.{Decided, SaidOf};
-ghost use Rattle.routine.specs.Code.{Leaves, placedAs, orderedBy, settledBy, rulesBy};
+ghost use Rattle.corners.specs.Promise.{CornerPromise};
+ghost use Rattle.routine.specs.Code.{Finds, outcomeRefused, placedAs, orderedBy, settledBy, Starts, rulesBy};
 use spots::area_of;
+use spots::corner_in;
 use spots::corners_of;
 use spots::position_at;
 
@@ -40,16 +42,34 @@ fn write(room: &mut [f64], xy: [f64; 12], n: usize)
     }
 }
 
-// From the orders on: ring, positions and area, and only then the room.
+// What is found of two triangles: the answer, and its ring's n corners, by place and by position. Where there is no ring, noughts.
+struct Found {
+    answer: triangles::Answer,
+    places: [walk::PlaceCode; 6],
+    xy: [f64; 12],
+}
+
+// A number, and no ring.
+fn nothing(k: u32) -> Found
+    ensures { λ f. ⌜ Finds (outcomeRefused k) f ⌝ }
+{
+    let answer = refused(k);
+    Found {
+        answer,
+        places: [walk::PlaceCode { code: 0 }; 6],
+        xy: [0.0; 12],
+    }
+}
+
+// From the orders on: ring, corners and area.
 fn placed(
     values: &[f64],
-    room: &mut [f64],
     params: [lines::Params; 3],
     signs: [[bool; 3]; 3],
     before: [[bool; 3]; 3],
-) -> triangles::Answer
-    requires { ⌜ (length (now values) ≡ 12) × (12 ≤ length (now room)) ⌝ }
-    ensures { λ r. ⌜ Leaves (placedAs (now (values .entry)) (now (room .entry)) params signs (flagsAndRing signs before)) r (now (room .exit)) ⌝ }
+) -> Found
+    requires { ⌜ length (now values) ≡ 12 ⌝ }
+    ensures { λ f. ⌜ Finds (placedAs (now (values .entry)) params signs (flagsAndRing signs before)) f ⌝ }
 {
     let w = walk::flags_and_ring(signs, before);
     let places = w.places;
@@ -58,11 +78,10 @@ fn placed(
     let xy = c.xy;
     let area = area_of(xy, n);
     if c.fine & floats::is_finite(area) {
-        write(room, xy, n);
         let u_in_v = w.u_in_v;
         let v_in_u = w.v_in_u;
         let neighbour = w.neighbour;
-        return triangles::Answer {
+        let answer = triangles::Answer {
             number: 0,
             n: n as u32,
             area,
@@ -70,20 +89,20 @@ fn placed(
             v_in_u,
             neighbour,
         };
+        return Found { answer, places, xy };
     }
-    refused(4)
+    nothing(4)
 }
 
 // From the parameters on: the orders along U's edges are decided, all three.
 fn ordered(
     values: &[f64],
-    room: &mut [f64],
     p: lines::Params,
     q: lines::Params,
     r: lines::Params,
-) -> triangles::Answer
-    requires { ⌜ (length (now values) ≡ 12) × (12 ≤ length (now room)) ⌝ }
-    ensures { λ a. ⌜ Leaves (orderedBy (now (values .entry)) (now (room .entry)) p q r) a (now (room .exit)) ⌝ }
+) -> Found
+    requires { ⌜ length (now values) ≡ 12 ⌝ }
+    ensures { λ f. ⌜ Finds (orderedBy (now (values .entry)) p q r) f ⌝ }
 {
     let s = lines::signs_of(p);
     let t = lines::signs_of(q);
@@ -95,29 +114,56 @@ fn ordered(
         let x = a.before;
         let y = b.before;
         let z = c.before;
-        return placed(values, room, [p, q, r], [s, t, u], [x, y, z]);
+        return placed(values, [p, q, r], [s, t, u], [x, y, z]);
     }
-    refused(4)
+    nothing(4)
 }
 
 // From d, e and the parameters on.
 fn settled(
     values: &[f64],
-    room: &mut [f64],
     d: f64,
     e: f64,
     p: lines::Params,
     q: lines::Params,
     r: lines::Params,
-) -> triangles::Answer
-    requires { ⌜ (length (now values) ≡ 12) × (12 ≤ length (now room)) ⌝ }
-    ensures { λ a. ⌜ Leaves (settledBy (now (values .entry)) (now (room .entry)) d e p q r) a (now (room .exit)) ⌝ }
+) -> Found
+    requires { ⌜ length (now values) ≡ 12 ⌝ }
+    ensures { λ f. ⌜ Finds (settledBy (now (values .entry)) d e p q r) f ⌝ }
 {
     let k = front::number_of(values, d, e, p, q, r);
     if k == 0 {
-        return ordered(values, room, p, q, r);
+        return ordered(values, p, q, r);
     }
-    refused(k)
+    nothing(k)
+}
+
+// What every rule starts from: d, e, and the parameters of U0, U1 and U2.
+struct Start {
+    d: f64,
+    e: f64,
+    p: lines::Params,
+    q: lines::Params,
+    r: lines::Params,
+}
+
+// Of two triangles, U0x, U0y, .. V2y.
+fn start_of(values: &[f64]) -> Start
+    requires { ⌜ length (now values) ≡ 12 ⌝ }
+    ensures { λ s. ⌜ Starts (now (values .entry)) s ⌝ }
+{
+    let u0 = position_at(values, 0);
+    let u1 = position_at(values, 1);
+    let u2 = position_at(values, 2);
+    let v0 = position_at(values, 3);
+    let v1 = position_at(values, 4);
+    let v2 = position_at(values, 5);
+    let d = floats::cross_from(v0, v1, v2);
+    let e = floats::cross_from(u0, u1, u2);
+    let p = lines::params_of(d, v0, v1, v2, u0);
+    let q = lines::params_of(d, v0, v1, v2, u1);
+    let r = lines::params_of(d, v0, v1, v2, u2);
+    Start { d, e, p, q, r }
 }
 
 // Two triangles, U0x, U0y, .. V2y: the answer, with the ring's corners at the front of the room, or a refusal, with the room as it was.
@@ -130,21 +176,45 @@ pub fn intersect(values: &[f64], room: &mut [f64]) -> triangles::Answer
     if room.len() < 12 {
         return refused(1);
     }
-    let u0 = position_at(values, 0);
-    let u1 = position_at(values, 1);
-    let u2 = position_at(values, 2);
-    let v0 = position_at(values, 3);
-    let v1 = position_at(values, 4);
-    let v2 = position_at(values, 5);
-    let d = floats::cross_from(v0, v1, v2);
-    let e = floats::cross_from(u0, u1, u2);
-    let p = lines::params_of(d, v0, v1, v2, u0);
-    let q = lines::params_of(d, v0, v1, v2, u1);
-    let r = lines::params_of(d, v0, v1, v2, u2);
-    if front::beyond(d, e, p, q, r) {
+    let s = start_of(values);
+    let p = s.p;
+    let q = s.q;
+    let r = s.r;
+    if front::beyond(s.d, s.e, p, q, r) {
         return refused(0);
     }
-    settled(values, room, d, e, p, q, r)
+    let f = settled(values, s.d, s.e, p, q, r);
+    let answer = f.answer;
+    let xy = f.xy;
+    write(room, xy, answer.n as usize);
+    answer
+}
+
+// Two triangles, U0x, U0y, .. V2y, and a place in their ring: the corner that stands there, or a refusal's number with zeros.
+pub fn corner_at(values: &[f64], place: usize) -> corners::Told
+    ensures { λ r. ⌜ CornerPromise (now (values .entry)) place r ⌝ }
+{
+    if values.len() != 12 {
+        return corners::no_corner(1);
+    }
+    let s = start_of(values);
+    let p = s.p;
+    let q = s.q;
+    let r = s.r;
+    if front::beyond(s.d, s.e, p, q, r) {
+        return corners::no_corner(6);
+    }
+    let f = settled(values, s.d, s.e, p, q, r);
+    let answer = f.answer;
+    if answer.number != 0 {
+        return corners::no_corner(answer.number);
+    }
+    if place < (answer.n as usize) {
+        let places = f.places;
+        let signs = [lines::signs_of(p), lines::signs_of(q), lines::signs_of(r)];
+        return corners::told_of(corner_in(values, [p, q, r], signs, places[place]));
+    }
+    corners::no_corner(6)
 }
 
 // Two triangles, U0x, U0y, .. V2y: what is decided of them. Those whose boxes share no point are apart; any others are given to the triangle rules.
@@ -154,8 +224,19 @@ pub fn decision(values: &[f64]) -> triangles::Decision
     if front::is_far(values) {
         return triangles::Decision::Apart;
     }
-    let mut room = [0.0; 12];
-    decisions::decision_from(intersect(values, &mut room))
+    if values.len() != 12 {
+        return triangles::Decision::Refused(1);
+    }
+    let s = start_of(values);
+    let p = s.p;
+    let q = s.q;
+    let r = s.r;
+    if front::beyond(s.d, s.e, p, q, r) {
+        return triangles::Decision::Apart;
+    }
+    let f = settled(values, s.d, s.e, p, q, r);
+    let answer = f.answer;
+    decisions::decision_from(answer)
 }
 
 // The same in numbers: 0 with the kind and the area, or a refusal's number with zeros.
@@ -195,6 +276,7 @@ pub fn by_rules(u: shapes::Shape, v: shapes::Shape) -> triangles::Decision
         v.x2,
         v.y2,
     ];
-    let mut room = [0.0; 12];
-    decisions::decision_from(settled(&values, &mut room, d, e, p, q, r))
+    let f = settled(&values, d, e, p, q, r);
+    let answer = f.answer;
+    decisions::decision_from(answer)
 }

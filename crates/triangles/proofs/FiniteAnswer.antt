@@ -21,7 +21,7 @@ use Rattle.lines.specs.Lines.{start, finish}
 use Rattle.lines.specs.Parameters.{parameter}
 use Rattle.ring.specs.Places.{Place, vertex, corner, crossing, fifteen}
 use Rattle.triangles.specs.Pair.{vertexOf, carriedBy, signsBy, ringOf}
-use Rattle.triangles.specs.Positions.{fraction, crossingAt, positionOf, ringPositions, valuesOfCorners, sumTo, half, areaOf}
+use Rattle.triangles.specs.Positions.{Placed, fraction, crossingFrom, placedAt, positionOf, ringPositions, valuesOfCorners, sumTo, half, areaOf}
 use Rattle.triangles.specs.Refusals.{Row, lengths, coordinates, wayToPosition, wayToArea, positionsWay, wayOf, refusalOf}
 use Rattle.triangles.specs.Answers.{answered, answerOf}
 use Rattle.triangles.specs.Rows.{NotFinite, Applies}
@@ -55,24 +55,27 @@ module _ (l : List Float) (coordinate : (k : ℕ) → k < 12 → T (finite (getD
   vertex-finite : (i : ℕ) → i < 6 → FinitePoint (vertexOf l i)
   vertex-finite i h = (coordinate (2 * i) (omega arith), coordinate (2 * i + 1) (omega arith))
 
-  crossing-finite : (a i j : ℕ) → T (fine (crossingAt l a i j .x)) → T (fine (crossingAt l a i j .y)) → FinitePoint (crossingAt l a i j)
-  unfolding crossingAt
-  crossing-finite a i j tx ty =
+  crossing-finite : (e a i j : ℕ) → T (fine (crossingFrom l e a i j .position .x)) → T (fine (crossingFrom l e a i j .position .y)) → FinitePoint (crossingFrom l e a i j .position)
+  unfolding crossingFrom
+  crossing-finite e a i j tx ty =
       let P = vertexOf l i in
       let Q = vertexOf l j in
       let t = fraction (parameter (carriedBy l i) a) (parameter (carriedBy l j) a) in
       (sum-finite (P .x) (t ⊗ (Q .x ⊖ P .x)) tx, sum-finite (P .y) (t ⊗ (Q .y ⊖ P .y)) ty)
 
+  -- the crossing reckoned from either end of its edge
+  abbrev fromEither : ℕ → ℕ → Bool → Placed
+  fromEither e a b = cond b (crossingFrom l e a (start e) (finish e)) (crossingFrom l e a (finish e) (start e))
+
   place-finite : (p : Place) → T (inRange p) → T (fine (positionOf l p .x)) → T (fine (positionOf l p .y)) → FinitePoint (positionOf l p)
-  unfolding positionOf inRange
+  unfolding placedAt inRange
   place-finite (vertex i) r tx ty = let h : i < 3 = ltb→lt i 3 r in vertex-finite i (omega arith)
   place-finite (corner k) r tx ty = let h : k < 3 = ltb→lt k 3 r in vertex-finite (3 + k) (omega arith)
   place-finite (crossing e a) r tx ty = go (signsBy l (start e) a) tx ty
     where
-      go : (b : Bool) → T (fine (cond b (crossingAt l a (start e) (finish e)) (crossingAt l a (finish e) (start e)) .x)) → T (fine (cond b (crossingAt l a (start e) (finish e)) (crossingAt l a (finish e) (start e)) .y)) →
-          FinitePoint (cond b (crossingAt l a (start e) (finish e)) (crossingAt l a (finish e) (start e)))
-      go true tx ty = crossing-finite a (start e) (finish e) tx ty
-      go false tx ty = crossing-finite a (finish e) (start e) tx ty
+      go : (b : Bool) → T (fine (fromEither e a b .position .x)) → T (fine (fromEither e a b .position .y)) → FinitePoint (fromEither e a b .position)
+      go true tx ty = crossing-finite e a (start e) (finish e) tx ty
+      go false tx ty = crossing-finite e a (finish e) (start e) tx ty
 
   values-finite : (ps : List Place) → T (all inRange ps) → T (all finite (positionsWay (map (positionOf l) ps))) → T (all finite (valuesOfCorners (map (positionOf l) ps)))
   unfolding all positionsWay valuesOfCorners

@@ -1,4 +1,4 @@
--- 01, "Flags, ring and area": positions and area. Definitions only.
+-- 01, "Flags, ring and area", and 02, No. 4: what the ring's corners are, where they stand, and their area. Definitions only.
 use mathlib.Core.Bool.{cond}
 use mathlib.Core.List.{List, [], _∷_, map}
 use Prim.Native.Nat.{ℕ, zero, suc, _+_, _-_}
@@ -10,6 +10,8 @@ use Rattle.floats.specs.Way.{Way, given, _⊕_, _⊖_, _⊗_, _⊘_, negated, f
 use Rattle.lines.specs.Lines.{start, finish}
 use Rattle.lines.specs.Parameters.{parameter}
 use Rattle.ring.specs.Places.{Place, vertex, corner, crossing}
+use Rattle.triangles.specs.declared.Kind.{Kind}
+use Rattle.triangles.specs.declared.Kind.the-variants.{Vertex, Reference, Crossing}
 use Rattle.triangles.specs.Pair.{vertexOf, cornerOf, paramsOf, carriedBy, vertexSigns, signsBy, ringOf}
 
 -- how far the crossing lies from P towards Q, by its line's parameter at either: a_P / (a_P − a_Q)
@@ -20,22 +22,33 @@ fraction aP aQ = aP ⊘ (aP ⊖ aQ)
 abbrev pub between : Way → Point Way → Point Way → Point Way
 between t P Q = record { x = P .x ⊕ (t ⊗ (Q .x ⊖ P .x)); y = P .y ⊕ (t ⊗ (Q .y ⊖ P .y)) }
 
-module _ (l : List Float) where
-  -- where line a is crossed between vertex i, which is plus on it, and vertex j
-  unfoldable pub crossingAt : ℕ → ℕ → ℕ → Point Way
-  unfolding paramsOf
-  crossingAt a i j = between (fraction (parameter (carriedBy l i) a) (parameter (carriedBy l j) a)) (vertexOf l i) (vertexOf l j)
+-- a corner of the ring: what it is, and its position with every value on the way
+pub record Placed : Type 0 where
+  pub kind : Kind
+  pub position : Point Way
 
-  -- a vertex and a corner stand where the input has them; a crossing is reckoned from the end of its edge that is plus on its line
-  unfoldable pub positionOf : Place → Point Way
-  unfolding vertexSigns crossingAt
-  positionOf (vertex i) = vertexOf l i
-  positionOf (corner k) = cornerOf l k
-  positionOf (crossing e a) = cond (signsBy l (start e) a) (crossingAt a (start e) (finish e)) (crossingAt a (finish e) (start e))
+module _ (l : List Float) where
+  -- the crossing of edge e with line a, from vertex i, which is plus on the line, towards vertex j: it carries the very t by which it is placed
+  unfoldable pub crossingFrom : ℕ → ℕ → ℕ → ℕ → Placed
+  unfolding paramsOf
+  crossingFrom e a i j =
+      let t = fraction (parameter (carriedBy l i) a) (parameter (carriedBy l j) a) in
+      record { kind = Crossing e a (t .value); position = between t (vertexOf l i) (vertexOf l j) }
+
+  -- the corner at a place: a vertex and a corner of V stand where the input has them; a crossing is reckoned from the end of its edge that is plus on its line
+  unfoldable pub placedAt : Place → Placed
+  unfolding vertexSigns crossingFrom
+  placedAt (vertex i) = record { kind = Vertex i; position = vertexOf l i }
+  placedAt (corner k) = record { kind = Reference k; position = cornerOf l k }
+  placedAt (crossing e a) = cond (signsBy l (start e) a) (crossingFrom e a (start e) (finish e)) (crossingFrom e a (finish e) (start e))
+
+  -- its position
+  abbrev pub positionOf : Place → Point Way
+  positionOf p = placedAt p .position
 
   -- the positions of the ring's places, and of no other crossing
   unfoldable pub ringPositions : List (Point Way)
-  unfolding ringOf positionOf
+  unfolding ringOf placedAt
   ringPositions = map positionOf (ringOf l)
 
 -- the 2n values of n corners

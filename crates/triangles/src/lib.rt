@@ -11,6 +11,21 @@ pub struct Answer {
     pub neighbour: [bool; 3],
 }
 
+// What a corner of the ring is: a vertex of U or a corner of V, the reference, by its number; or a crossing, with U's edge, V's line and the fraction t by which
+// it was placed.
+pub enum Kind {
+    Vertex(u32),
+    Reference(u32),
+    Crossing(u32, u32, f64),
+}
+
+// A corner of the ring: what it is, and where it stands.
+pub struct Corner {
+    pub kind: Kind,
+    pub x: f64,
+    pub y: f64,
+}
+
 // What is decided of two triangles where no corners are asked for: refused with the number, overlapping with the area, touching, or apart.
 pub enum Decision {
     Refused(u32),

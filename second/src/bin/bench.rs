@@ -1,18 +1,20 @@
 //! Time a pair and time a byte, the library and the second program in turn over the same input.
-//! A pair is given by itself, or is one of a file's whose leaks are listed; a byte is one of a file's that is
-//! judged or written.
+//! A pair is given by itself, for an answer or for a corner, or is one of a file's whose leaks are listed; a
+//! byte is one of a file's that is judged or written.
 
 use std::process::ExitCode;
 use std::time::Instant;
 
+use second::corners::{self, Corner};
 use second::decision::decide;
 use second::footprint::{self, Entry, Verdict, MOST_BYTES};
 use second::leaks::{self, List};
 use second::library;
 use second::triangles;
 use second::workloads::tracks::{file_of_tracks, pairs_of_tracks, DIAGONALS, LEAKS, MOST_TRACKS};
-use second::workloads::{fold, fold_list, fold_verdict, fold_written, Values, FILE, NAMES, WRITE};
-use second::workloads::{largest_draft, largest_file, pairs, unforeseen};
+use second::workloads::{fold, fold_corner, fold_list, fold_verdict, fold_written};
+use second::workloads::{largest_draft, largest_file, pairs, pairs_with_corners, place_of, unforeseen};
+use second::workloads::{Values, CORNERS, FILE, NAMES, WRITE};
 use second::writer::{self, Handed, Written};
 
 const PAIRS: usize = 2_000;
@@ -24,11 +26,11 @@ const ROUNDS_OF_LISTS: usize = 12;
 
 fn main() -> ExitCode {
     println!(
-        "{:<9} {:>7} {:>23} {:>23} {:>15}",
+        "{:<13} {:>7} {:>23} {:>23} {:>15}",
         "", "overlap", "library ns/pair", "second ns/pair", "library/second"
     );
     println!(
-        "{:<9} {:>7} {:>23} {:>23} {:>15}",
+        "{:<13} {:>7} {:>23} {:>23} {:>15}",
         "pairs", "%", "least  median", "least  median", "least  median"
     );
     for name in NAMES {
@@ -38,6 +40,14 @@ fn main() -> ExitCode {
             return ExitCode::FAILURE;
         }
         measure(name, &prepared);
+    }
+    for name in CORNERS {
+        let prepared = pairs_with_corners(name, PAIRS).expect("every named workload exists");
+        if every_corner(&prepared, library::corner_at) != every_corner(&prepared, corners::corner_at) {
+            println!("{name}: the two programs answer differently");
+            return ExitCode::FAILURE;
+        }
+        measure_corners(name, &prepared);
     }
     for name in [LEAKS, DIAGONALS] {
         let file = file_of_tracks(name, MOST_TRACKS).expect("every named workload exists");
@@ -97,6 +107,13 @@ fn everything(pairs: &[Values], call: fn(&[f64], &mut [f64]) -> Gathered) -> u64
     sum
 }
 
+/// The same over corners, each with one behind its ring.
+fn every_corner(pairs: &[Values], corner_at: fn(&[f64], usize) -> Corner) -> u64 {
+    pairs
+        .iter()
+        .fold(0, |sum, values| (0..7).fold(sum, |sum, place| fold_corner(sum, corner_at(values, place))))
+}
+
 /// The verdict and all recordings; not timed.
 fn everything_of(
     file: &[u8],
@@ -124,6 +141,19 @@ fn measure(name: &str, pairs: &[Values]) {
     print_row(name, percent(overlapping, pairs.len()), 1, times);
 }
 
+/// In the place of pairs that overlap stand those that have such a corner.
+fn measure_corners(name: &str, pairs: &[Values]) {
+    let times = in_turn(
+        ROUNDS,
+        || time_corners(pairs, library::corner_at),
+        || time_corners(pairs, corners::corner_at),
+    );
+    let answered =
+        |(pair, values): &(usize, &Values)| corners::corner_at(*values, place_of(*pair)).number == 0;
+    let answered = pairs.iter().enumerate().filter(answered).count();
+    print_row(name, percent(answered, pairs.len()), 1, times);
+}
+
 fn measure_leaks(name: &str, file: &[u8]) {
     let times =
         in_turn(ROUNDS_OF_LISTS, || time_listing(file, library::leaks), || time_listing(file, leaks::leaks));
@@ -136,7 +166,7 @@ fn measure_file(file: &[u8]) {
     let times =
         in_turn(ROUNDS, || time_judging(file, library::check), || time_judging(file, footprint::judge));
     println!(
-        "{:<9} {:>7} {:>23} {:>23} {:>15}",
+        "{:<13} {:>7} {:>23} {:>23} {:>15}",
         "", "bytes", "library ns/byte", "second ns/byte", "library/second"
     );
     print_row(FILE, file.len().to_string(), 3, times);
@@ -160,7 +190,7 @@ type Times = ((f64, f64), (f64, f64));
 
 fn print_row(name: &str, share: String, decimals: usize, (library, second): Times) {
     println!(
-        "{name:<9} {share:>7} {:>13.*} {:>9.*} {:>13.*} {:>9.*} {:>7.3} {:>7.3}",
+        "{name:<13} {share:>7} {:>13.*} {:>9.*} {:>13.*} {:>9.*} {:>7.3} {:>7.3}",
         decimals,
         library.0,
         decimals,
@@ -208,6 +238,17 @@ fn time_second(pairs: &[Values]) -> f64 {
     for values in pairs {
         let answer = triangles::intersect(unforeseen(values), &mut room);
         sum = fold(sum, answer.number, answer.n, answer.area);
+    }
+    unforeseen(sum);
+    begin.elapsed().as_nanos() as f64 / pairs.len() as f64
+}
+
+/// Compiled for each of the two, so that neither is called by pointer.
+fn time_corners(pairs: &[Values], corner_at: impl Fn(&[f64], usize) -> Corner) -> f64 {
+    let begin = Instant::now();
+    let mut sum = 0;
+    for (pair, values) in pairs.iter().enumerate() {
+        sum = fold_corner(sum, corner_at(unforeseen(values), place_of(pair)));
     }
     unforeseen(sum);
     begin.elapsed().as_nanos() as f64 / pairs.len() as f64

@@ -4,7 +4,7 @@ use std::fmt::Write as _;
 use std::io::{self, Write as _};
 use std::process::ExitCode;
 
-use second::case::Case;
+use second::case::{plain, Case};
 use second::classes::{decisions, draw, formulas, worked, CLASSES};
 use second::coverage::Coverage;
 use second::decision::decide;
@@ -80,14 +80,6 @@ fn drawn(class: usize, random: &mut Random) -> Case {
             return case;
         }
     }
-}
-
-/// With one NaN for all NaNs: a test program need not carry payloads.
-fn plain(mut case: Case) -> Case {
-    for value in case.values.iter_mut().filter(|value| value.is_nan()) {
-        *value = f64::from_bits(0x7ff8_0000_0000_0000);
-    }
-    case
 }
 
 fn coverage_of(case: &Case) -> Coverage {

@@ -2,13 +2,16 @@
 
 use std::process::ExitCode;
 
+use second::corners::{self, Corner};
 use second::footprint::{judge, Verdict, MOST_BYTES};
 use second::leaks::{leaks, List};
 use second::library;
 use second::triangles;
 use second::workloads::tracks::{file_of_tracks, MOST_TRACKS};
-use second::workloads::{fold, fold_list, fold_verdict, fold_written, FILE, WRITE};
-use second::workloads::{largest_draft, largest_file, pairs, unforeseen, Values};
+use second::workloads::{fold, fold_corner, fold_list, fold_verdict, fold_written, FILE, WRITE};
+use second::workloads::{
+    largest_draft, largest_file, pairs, pairs_with_corners, place_of, unforeseen, Values,
+};
 use second::writer::{write, Handed, Written};
 
 fn main() -> ExitCode {
@@ -19,7 +22,8 @@ fn main() -> ExitCode {
         }
         None => {
             eprintln!("usage: loop library|second WORKLOAD COUNT ROUNDS");
-            eprintln!("workloads: random, strips, far, file, write, leaks, diagonals, crowded-TIMES");
+            eprintln!("workloads: random, strips, far, corner-random, corner-strips, file, write, leaks, diagonals,");
+            eprintln!("           crowded-TIMES");
             ExitCode::from(2)
         }
     }
@@ -40,6 +44,9 @@ fn checksum() -> Option<u64> {
     }
     if let Some(file) = file_of_tracks(workload, count.min(MOST_TRACKS)) {
         return lists(side, &file, rounds);
+    }
+    if let Some(prepared) = pairs_with_corners(workload, count) {
+        return corners_of(side, &prepared, rounds);
     }
     let prepared = pairs(workload, count)?;
     let round = match side.as_str() {
@@ -91,6 +98,23 @@ fn lists(side: &str, file: &[u8], rounds: usize) -> Option<u64> {
     println!("tested {tested}");
     let written = room.iter().take_while(|byte| **byte != 0);
     Some(written.fold(sum, |sum, byte| sum.rotate_left(7) ^ u64::from(*byte)))
+}
+
+/// One of each pair.
+fn corners_of(side: &str, pairs: &[Values], rounds: usize) -> Option<u64> {
+    match side {
+        "library" => Some((0..rounds).fold(0, |sum, _| corner_round(sum, pairs, library::corner_at))),
+        "second" => Some((0..rounds).fold(0, |sum, _| corner_round(sum, pairs, corners::corner_at))),
+        _ => None,
+    }
+}
+
+#[inline]
+fn corner_round(mut sum: u64, pairs: &[Values], corner_at: impl Fn(&[f64], usize) -> Corner) -> u64 {
+    for (pair, values) in pairs.iter().enumerate() {
+        sum = fold_corner(sum, corner_at(unforeseen(values), place_of(pair)));
+    }
+    sum
 }
 
 fn library_round(mut sum: u64, pairs: &[Values]) -> u64 {

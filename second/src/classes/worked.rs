@@ -47,6 +47,9 @@ fn l() -> Pair {
     pair(U_OF_A, [(0.0, 0.0), (1e300, 0.0), (0.0, 1e300)])
 }
 
+/// Which of `in_turn` are those of K.
+pub const K: std::ops::Range<usize> = 10..34;
+
 /// All of them in document 01's order, K spelled out, with a room of twelve.
 pub fn in_turn() -> Vec<Case> {
     let mut inputs: Vec<Vec<f64>> = before_k().iter().map(Pair::values).collect();

@@ -1,4 +1,4 @@
-//! Where the ring's corners are, and the area that they enclose.
+//! The ring's corners, each with its kind and its position, and the area that they enclose.
 
 use super::lines::{Parameters, Signs};
 use super::list::List;
@@ -7,10 +7,30 @@ use super::orders::ends_of;
 use super::ring::{Place, Ring};
 use super::trace::Trace;
 
-pub type Corners = List<Point, 6>;
+/// What a corner of the ring is.
+#[derive(Clone, Copy, Debug, PartialEq)]
+pub enum Kind {
+    Vertex(usize),
+    Corner(usize),
+    /// `t` counts from the end that is plus on the line, whichever way the edge runs.
+    Crossing {
+        edge: usize,
+        line: usize,
+        t: f64,
+    },
+}
 
+#[derive(Clone, Copy, Debug)]
+pub struct RingCorner {
+    pub kind: Kind,
+    pub position: Point,
+}
+
+pub type Positions = List<Point, 6>;
+
+/// The trace is told each corner; for room and area its position is kept.
 pub fn place_corners<T: Trace>(
-    corners: &mut Corners,
+    positions: &mut Positions,
     ring: &Ring,
     u: &[Point; 3],
     v: &[Point; 3],
@@ -19,26 +39,26 @@ pub fn place_corners<T: Trace>(
     trace: &mut T,
 ) -> Option<()> {
     for place in ring.as_slice() {
-        let position = match *place {
-            Place::Vertex(vertex) => u[vertex],
-            Place::Corner(corner) => v[corner],
-            Place::Crossing { edge, line } => crossing_position(edge, line, u, parameters, signs, trace)?,
+        let corner = match *place {
+            Place::Vertex(vertex) => RingCorner { kind: Kind::Vertex(vertex), position: u[vertex] },
+            Place::Corner(corner) => RingCorner { kind: Kind::Corner(corner), position: v[corner] },
+            Place::Crossing { edge, line } => crossing_corner(edge, line, u, parameters, signs, trace)?,
         };
-        trace.position(position);
-        corners.push(position);
+        trace.corner(corner);
+        positions.push(corner.position);
     }
     Some(())
 }
 
-/// Measured from the end that is plus on the line, whichever way the edge runs.
-pub fn crossing_position<T: Trace>(
+/// Measured from the end that is plus on the line.
+pub fn crossing_corner<T: Trace>(
     edge: usize,
     line: usize,
     u: &[Point; 3],
     parameters: &[Parameters; 3],
     signs: &[Signs; 3],
     trace: &mut T,
-) -> Option<Point> {
+) -> Option<RingCorner> {
     let (start, end) = ends_of(edge);
     let (p, q) = if signs[start].plus(line) { (start, end) } else { (end, start) };
     let (a_p, a_q) = (parameters[p][line], parameters[q][line]);
@@ -49,8 +69,8 @@ pub fn crossing_position<T: Trace>(
         return None;
     }
     let t = finite(a_p / denominator)?;
-    trace.fraction(t);
-    Some(Point { x: component(u[p].x, u[q].x, t)?, y: component(u[p].y, u[q].y, t)? })
+    let position = Point { x: component(u[p].x, u[q].x, t)?, y: component(u[p].y, u[q].y, t)? };
+    Some(RingCorner { kind: Kind::Crossing { edge, line, t }, position })
 }
 
 fn component(p: f64, q: f64, t: f64) -> Option<f64> {

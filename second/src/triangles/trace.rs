@@ -3,6 +3,7 @@
 use super::lines::{Parameters, Signs};
 use super::numbers::Point;
 use super::orders::Order;
+use super::positions::RingCorner;
 use super::ring::Ring;
 use super::Refusal;
 
@@ -16,8 +17,7 @@ pub trait Trace {
     fn orders(&mut self, orders: &[Order; 3]) {}
     fn ring(&mut self, u: &[Point; 3], ring: &Ring) {}
     fn denominator_overflowed(&mut self) {}
-    fn fraction(&mut self, t: f64) {}
-    fn position(&mut self, position: Point) {}
+    fn corner(&mut self, corner: RingCorner) {}
 }
 
 impl Trace for () {}

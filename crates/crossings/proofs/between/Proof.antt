@@ -1,7 +1,7 @@
 -- Value by value as the definition has it.
 use mathlib.Core.Path.{refl}
 use lib.Ieee.{add, sub, mul, div}
-use Rattle.crossings.specs.Crossing.{spotOn}
+use Rattle.crossings.specs.Crossing.{crossedOn}
 use borrow.Author.Needs.{needs}
 use Rattle.crossings.proofs.between.Statement.{statement}
 use Rattle.crossings.proofs.between.Tie as tie
@@ -10,7 +10,7 @@ is-finite-requires : tie.Need-is-finite-requires
 is-finite-requires c κs = search needs
 
 returns : tie.Need-returns
-unfolding spotOn add sub mul div
+unfolding crossedOn add sub mul div
 returns c = rw (c .is-finite .ensures) refl
 
 pub between-spec : {M : Type 1} → statement M

@@ -1,7 +1,4 @@
 -- The steps of the code are those of `rulesBy`.
-use native.Mathlib.Omega.{arith}
-use mathlib.Core.Path.{refl}
-use lib.Ieee.{ofBits}
 use Rattle.routine.proofs.Decisions.{decides-apart, decides-by}
 use borrow.Author.Needs.{needs}
 use Rattle.routine.proofs.by_rules.Statement.{statement}
@@ -31,17 +28,13 @@ returns c =
 slice-aggregate-settled : tie.Need-slice-aggregate-settled
 slice-aggregate-settled c = search needs
 
-slice-aggregate-settled-2 : tie.Need-slice-aggregate-settled-2
-slice-aggregate-settled-2 c = search needs
-
 settled-requires : tie.Need-settled-requires
-settled-requires c κs = (refl, omega arith)
+settled-requires c κs = search needs
 
 decision-from-requires : tie.Need-decision-from-requires
 decision-from-requires c κs = search needs
 
 returns-2 : tie.Need-returns-2
-unfolding ofBits
 returns-2 c =
     let b1 = c .before in
     let b2 = b1 .before in
@@ -52,9 +45,8 @@ returns-2 c =
     let b7 = b6 .before in
     let b8 = b7 .before in
     let b9 = b8 .before in
-    let b10 = b9 .before in
-    let g = b10 .args in
-    decides-by (g .u) (g .v) (b9 .params-by .ensures) (b8 .params-by2 .ensures) (b7 .params-by3 .ensures) (b6 .beyond .ensures) (b5 .if1 .left) (b2 .settled .ensures) (c .decision-from .ensures)
+    let g = b9 .args in
+    decides-by (g .u) (g .v) (b8 .params-by .ensures) (b7 .params-by2 .ensures) (b6 .params-by3 .ensures) (b5 .beyond .ensures) (b4 .if1 .left) (b2 .settled .ensures) (c .decision-from .ensures)
 
 pub by-rules-spec : {M : Type 1} → statement M
 by-rules-spec =
@@ -66,7 +58,6 @@ by-rules-spec =
     beyond-requires
     returns
     slice-aggregate-settled
-    slice-aggregate-settled-2
     settled-requires
     decision-from-requires
     returns-2)

@@ -1,6 +1,6 @@
--- The orders are decided, and refused if one of their pair tests is not finite.
+-- The signs and the orders, as the definition has them.
 use denote.Ref.{now}
-use Rattle.routine.proofs.Steps.{orders-leave, tests-leave}
+use Rattle.routine.proofs.Steps.{orders-find, tests-find}
 use borrow.Author.Needs.{needs}
 use Rattle.routine.proofs.ordered.Statement.{statement}
 use Rattle.routine.proofs.ordered.Tie as tie
@@ -26,9 +26,6 @@ order-of-requires-3 c κs = search needs
 placed-requires : tie.Need-placed-requires
 placed-requires c κs = search needs
 
-same-length : tie.Need-same-length
-same-length c = search needs
-
 returns : tie.Need-returns
 returns c =
     let b1 = c .before in
@@ -46,15 +43,11 @@ returns c =
     let b13 = b12 .before in
     let b14 = b13 .before in
     let b15 = b14 .before in
-    let b16 = b15 .before in
-    let b17 = b16 .before in
-    let b18 = b17 .before in
-    let b19 = b18 .before in
-    let g = b19 .args in
-    orders-leave (now (g .values)) (now (g .room)) (g .p) (g .q) (g .r) _ _ _ (b16 .signs-of .ensures) (b15 .signs-of2 .ensures) (b14 .signs-of3 .ensures) _ _ _ (b13 .order-of .ensures) (b12 .order-of2 .ensures) (b11 .order-of3 .ensures) (b7 .if1 .taken) (b2 .placed .ensures)
+    let g = b15 .args in
+    orders-find (now (g .values)) (g .p) (g .q) (g .r) _ _ _ (b13 .signs-of .ensures) (b12 .signs-of2 .ensures) (b11 .signs-of3 .ensures) _ _ _ (b10 .order-of .ensures) (b9 .order-of2 .ensures) (b8 .order-of3 .ensures) (b4 .if1 .taken) (c .placed .ensures)
 
-refused-requires : tie.Need-refused-requires
-refused-requires c κs = search needs
+nothing-requires : tie.Need-nothing-requires
+nothing-requires c κs = search needs
 
 returns-2 : tie.Need-returns-2
 returns-2 c =
@@ -70,9 +63,8 @@ returns-2 c =
     let b10 = b9 .before in
     let b11 = b10 .before in
     let b12 = b11 .before in
-    let b13 = b12 .before in
-    let g = b13 .args in
-    tests-leave (now (g .values)) (now (g .room)) (g .p) (g .q) (g .r) _ _ _ (b10 .signs-of .ensures) (b9 .signs-of2 .ensures) (b8 .signs-of3 .ensures) _ _ _ (b7 .order-of .ensures) (b6 .order-of2 .ensures) (b5 .order-of3 .ensures) (b1 .if1 .left) (c .refused .ensures)
+    let g = b12 .args in
+    tests-find (now (g .values)) (g .p) (g .q) (g .r) _ _ _ (b10 .signs-of .ensures) (b9 .signs-of2 .ensures) (b8 .signs-of3 .ensures) _ _ _ (b7 .order-of .ensures) (b6 .order-of2 .ensures) (b5 .order-of3 .ensures) (b1 .if1 .left) (c .nothing .ensures)
 
 pub ordered-spec : {M : Type 1} → statement M
 ordered-spec =
@@ -85,7 +77,6 @@ ordered-spec =
     order-of-requires-2
     order-of-requires-3
     placed-requires
-    same-length
     returns
-    refused-requires
+    nothing-requires
     returns-2)

@@ -1,6 +1,6 @@
--- The rows to the parameters first, then the rest.
-use Rattle.routine.proofs.Steps.{rest-leaves, row-leaves}
+-- The rows before the pair tests, then the rest.
 use denote.Ref.{now}
+use Rattle.routine.proofs.Steps.{rest-finds, row-finds}
 use borrow.Author.Needs.{needs}
 use Rattle.routine.proofs.settled.Statement.{statement}
 use Rattle.routine.proofs.settled.Tie as tie
@@ -11,36 +11,21 @@ number-of-requires c κs = search needs
 ordered-requires : tie.Need-ordered-requires
 ordered-requires c κs = search needs
 
-same-length : tie.Need-same-length
-same-length c = search needs
-
 returns : tie.Need-returns
 returns c =
-    let b1 = c .before in
-    let b2 = b1 .before in
-    let b3 = b2 .before in
-    let b4 = b3 .before in
-    let b5 = b4 .before in
-    let b6 = b5 .before in
-    let b7 = b6 .before in
-    let b8 = b7 .before in
-    let g = b8 .args in
-    rest-leaves (now (g .values)) (now (g .room)) (g .d) (g .e) (g .p) (g .q) (g .r) _ (b5 .number-of .ensures) (b4 .if1 .taken) (b2 .ordered .ensures)
+    let b2 = c .before .before in
+    let g = b2 .before .before .args in
+    rest-finds (now (g .values)) (g .d) (g .e) (g .p) (g .q) (g .r) _ (b2 .number-of .ensures) (c .before .if1 .taken) (c .ordered .ensures)
 
-refused-requires : tie.Need-refused-requires
-refused-requires c κs = search needs
+nothing-requires : tie.Need-nothing-requires
+nothing-requires c κs = search needs
 
 returns-2 : tie.Need-returns-2
 returns-2 c =
-    let b1 = c .before in
-    let b2 = b1 .before in
-    let b3 = b2 .before in
-    let b4 = b3 .before in
-    let b5 = b4 .before in
-    let g = b5 .args in
-    row-leaves (now (g .values)) (now (g .room)) (g .d) (g .e) (g .p) (g .q) (g .r) _ (b2 .number-of .ensures) (b1 .if1 .left) (c .refused .ensures)
+    let b2 = c .before .before in
+    let g = b2 .before .before .args in
+    row-finds (now (g .values)) (g .d) (g .e) (g .p) (g .q) (g .r) _ (b2 .number-of .ensures) (c .before .if1 .left) (c .nothing .ensures)
 
 pub settled-spec : {M : Type 1} → statement M
 settled-spec =
-    tie.close
-    (tie.spec number-of-requires ordered-requires same-length returns refused-requires returns-2)
+    tie.close (tie.spec number-of-requires ordered-requires returns nothing-requires returns-2)

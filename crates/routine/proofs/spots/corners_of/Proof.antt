@@ -89,19 +89,19 @@ loop-less c = search needs
 
 loop-again : tie.Need-loop-again Inv-loop μ-loop
 loop-again c =
-    let b1 = c .before in
-    let b5 = b1 .before .before .before .before in
-    let b6 = b5 .before in
+    let b2 = c .before .before in
+    let b6 = b2 .before .before .before .before in
     let b7 = b6 .before in
     let b8 = b7 .before in
-    let b10 = b8 .before .before in
-    let b11 = b10 .before in
-    let b13 = b11 .before .before in
-    let g = b13 .args in
-    let inv = b11 .loop .inv in
-    let h = b10 .loop-test .taken in
-    let spot = looked-up _ (g .t2) (g .t3) _ _ _ _ _ (b8 .edge-in .ensures) (b7 .line-in .ensures .0) (b6 .end-of .ensures .0) (b5 .end-of2 .ensures .0) (b1 .spot-of .ensures) in
-    (search needs, search needs, one-laid _ (g .t2) (g .t3) (g .t4) _ _ spot _ (omega (arith, h, inv .1, b13 .pre .1)) (inv .2), one-fine _ (g .t2) (g .t3) (g .t4) _ _ spot (inv .3))
+    let b9 = b8 .before in
+    let b11 = b9 .before .before in
+    let b12 = b11 .before in
+    let b14 = b12 .before .before in
+    let g = b14 .args in
+    let inv = b12 .loop .inv in
+    let h = b11 .loop-test .taken in
+    let spot = looked-up _ (g .t2) (g .t3) _ _ _ _ _ (b9 .edge-in .ensures .0) (b8 .line-in .ensures .0) (b7 .end-of .ensures .0) (b6 .end-of2 .ensures .0) (b2 .spot-of .ensures) in
+    (search needs, search needs, one-laid _ (g .t2) (g .t3) (g .t4) _ _ spot _ (omega (arith, h, inv .1, b14 .pre .1)) (inv .2), one-fine _ (g .t2) (g .t3) (g .t4) _ _ spot (inv .3))
 
 returns : tie.Need-returns Inv-loop μ-loop
 returns c =
