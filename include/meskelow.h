@@ -1,5 +1,5 @@
-/* Meskelow: the intersection of two triangles, whether they overlap, touch or are apart, the reader and the writer of footprint
- * files and the leak list, proved against their rules (docs/RULES.md).
+/* Meskelow: the intersection of two triangles and what each corner of it is, whether they overlap, touch or are apart, the reader
+ * and the writer of footprint files and the leak list, proved against their rules (docs/RULES.md).
  *
  * Link target/staticlib/libmeskelow.a, which `rt staticlib meskelow` makes: x86-64 Linux code that calls nothing but the C
  * library's memcpy and memset, allocates nothing, keeps no state and may be called from any number of threads at once. meskelow_leaks
@@ -48,7 +48,7 @@ enum { /* refusals.tsv: triangles */
 typedef struct {
     uint32_t number;   /* 0: an answer. Else one of the refusals above, and every other field is zero */
     uint32_t n;        /* corners of the ring that the two triangles share: 0, or 3 to 6. The first 2n values of the room are
-                        * x and y of each, in the ring's order; positions may coincide */
+                        * x and y of each, in the ring's order; positions may coincide. meskelow_corner_at tells what each is */
     double area;       /* the ring's area, never negative; 0.0 without a ring. A ring can have area 0.0 too, as where triangles only
                         * share an edge: n says whether there is a ring, and meskelow_decide whether the two overlap */
     bool u_in_v[3];    /* vertex i of U is in V */
@@ -85,6 +85,50 @@ typedef struct {
  * corner in common is a point. All others are given to the triangle rules, and refused exactly where meskelow_intersect refuses
  * them with a room of MESKELOW_CORNER_ROOM, 4 also for the corners' positions and the area. meskelow_intersect looks at no box. */
 meskelow_decision meskelow_decide(const double *values, size_t values_len);
+
+enum { /* the kinds of a ring's corners */
+    MESKELOW_VERTEX_OF_U = 0,
+    MESKELOW_CORNER_OF_V = 1,
+    MESKELOW_CROSSING = 2 /* of an edge of U and a line of V */
+};
+
+enum { /* refusals.tsv: corner */
+    MESKELOW_REFUSED_NO_CORNER = 6 /* the ring has no such corner: the place asked for is not below n */
+};
+
+typedef struct {
+    uint32_t number;   /* 0: an answer. Else one of the refusals above, and every other field is zero. Look here first: beside a
+                        * refusal kind 0 does not say MESKELOW_VERTEX_OF_U */
+    uint32_t kind;     /* of an answer, MESKELOW_VERTEX_OF_U, MESKELOW_CORNER_OF_V or MESKELOW_CROSSING. Of which, edge, line and t
+                        * those that the kind does not have are zero */
+    uint32_t which;    /* of a vertex of U and of a corner of V, its number: 0, 1 or 2 */
+    uint32_t edge;     /* of a crossing, the edge of U: edge 0 runs from U0 to U1, edge 1 from U1 to U2, edge 2 from U2 to U0; */
+    uint32_t line;     /* the line of V: line 0 goes through V0 and V2, line 1 through V0 and V1, line 2 through V1 and V2; */
+    double t;          /* and the fraction of the way from P to Q, the two ends of the edge (see below), at which the edge meets the
+                        * line: 0 <= t <= 1, where a zero may be -0.0 */
+    double x;          /* of an answer, where the corner stands: bit for bit the values that meskelow_intersect writes for it. */
+    double y;          /* (The struct has 48 bytes: t is at 24, x at 32, y at 40) */
+} meskelow_corner;
+
+/* The corner at a place of the ring that U and V share. values are those of meskelow_intersect; no room is lent. Corners are asked
+ * for one at a time: to get them all, ask meskelow_intersect for n, and then for the places 0 to n - 1. Each call judges the whole
+ * pair anew.
+ *
+ * A crossing stands at P + t * (Q - P), in x and in y. t is the very value that its position was computed with, each operation
+ * rounded once (so there is no fused multiply-add: -ffp-contract=off where a machine has one). P and Q are the ends of the edge,
+ * and t is not always measured from where the edge starts: P is the end that is plus on the line, which is the one on V's side of
+ * the line, or on the line itself; Q, the other, is minus there. examples/corners.c tells P by the rules' own formulas. Or else
+ * compute the position from each of the ends, just as it is written here: P is the end from which it comes out as x and y. Where
+ * it does from both, it makes no difference to the position which of them is taken.
+ *
+ * Corners that coincide keep their own kinds. So where U and V share an edge, the ring may have two vertices of U and, at the very
+ * same positions, two crossings with t 0.
+ *
+ * A call is refused first exactly where meskelow_intersect refuses the values with a room of MESKELOW_CORNER_ROOM: 1 for any other
+ * number of values than twelve, as for NULL and 0, and 4 also where it is only another corner's position, or the area, that is not
+ * finite. Then comes 6, for every place from n on, up to SIZE_MAX; where there is no ring that is every place. No box is looked at:
+ * a pair that meskelow_decide calls apart may have a ring here, by rounding. */
+meskelow_corner meskelow_corner_at(const double *values, size_t values_len, size_t place);
 
 /* Footprint files: README.md has the format. A file is lent whole, as the bytes that it has. Reading it from a disk or writing it
  * to one, and what can go wrong with that, is the caller's. */

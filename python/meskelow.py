@@ -4,6 +4,9 @@
 
     answer = meskelow.intersect([(1, 1), (-3, 1), (1, -3)], [(0, 0), (4, 0), (0, 4)])
     print(answer.ring, answer.area)
+    for corner in meskelow.corners([(1, 1), (-3, 1), (1, -3)], [(0, 0), (4, 0), (0, 4)]):
+        if isinstance(corner, meskelow.Crossing):
+            print(corner.edge, corner.line, corner.t, corner.x, corner.y)
     if meskelow.decide([(0, 0), (4, 0), (0, -4)], [(0, 0), (4, 0), (0, 4)]).kind is meskelow.Kind.TOUCHING:
         print("neighbours")
 
@@ -39,6 +42,7 @@ from __future__ import annotations
 
 import array
 import ctypes
+import dataclasses
 import enum
 import functools
 import numbers
@@ -49,7 +53,7 @@ import platform
 import re
 import struct
 import sys
-from typing import Dict, Iterable, Iterator, NamedTuple, Protocol, Sequence, SupportsIndex, Tuple, Type, Union
+from typing import Dict, Iterable, Iterator, List, NamedTuple, Protocol, Sequence, SupportsIndex, Tuple, Type, Union
 
 ROOT = pathlib.Path(__file__).resolve().parent.parent
 ARCHIVE = ROOT / "target" / "staticlib" / "libmeskelow.a"
@@ -64,6 +68,7 @@ REFUSED_NOT_FINITE = 2
 REFUSED_FLAT_V = 3
 REFUSED_OVERFLOW = 4
 REFUSED_FLAT_U = 5
+REFUSED_NO_CORNER = 6
 REFUSED_LIST_ROOM = 7
 REFUSED_NO_RECORDING = 10
 REFUSED_FILE_LENGTH = 11
@@ -85,10 +90,10 @@ _LEAK = re.compile("test ([0-9]+) train ([0-9]+) pairs ([0-9]+)\n")
 
 
 class Refused(ValueError):
-    """There is no answer. `number` is the rules' refusal, one of the numbers above: 1 to 5 of two triangles, 11 to 18 of a file, 10
-    of a recording that a good file does not have, 13 to 19 of recordings that are to be written. (7 does not occur: a list gets all
-    the room that it can need.) `place` is the byte offset in the file that the refusal reports, or 0; of what is to be written it is
-    0. The text has the words of refusals.tsv."""
+    """There is no answer. `number` is the rules' refusal, one of the numbers above: 1 to 5 of two triangles, 6 of a corner that their
+    ring does not have, 11 to 18 of a file, 10 of a recording that a good file does not have, 13 to 19 of recordings that are to be
+    written. (7 does not occur: a list gets all the room that it can need.) `place` is the byte offset in the file that the refusal
+    reports, or 0; of triangles, corners and what is to be written it is 0. The text has the words of refusals.tsv."""
 
     def __init__(self, number: int, place: int = 0) -> None:
         super().__init__(number, place)
@@ -111,6 +116,42 @@ class Answer(NamedTuple):
     u_in_v: Flags  # vertex i of U is in V
     v_in_u: Flags  # corner k of V is in U
     neighbour: Flags  # a crossing lies on V's edge on line a, or one of its ends is in U
+
+
+@dataclasses.dataclass(frozen=True)
+class VertexOfU:
+    """A corner of the ring that is a vertex of U. (The kinds of corners are no tuples: as such, vertex 0 of U and corner 0 of V would
+    be equal where they coincide.)"""
+
+    which: int  # its number, 0 to 2
+    x: float
+    y: float
+
+
+@dataclasses.dataclass(frozen=True)
+class CornerOfV:
+    """A corner of the ring that is a corner of V."""
+
+    which: int  # its number, 0 to 2
+    x: float
+    y: float
+
+
+@dataclasses.dataclass(frozen=True)
+class Crossing:
+    """A corner of the ring where an edge of U crosses a line of V. It stands at P + t * (Q - P), in x and in y, computed as it is
+    written here. P is the end of the edge that is plus on the line, which is the one on V's side of it, or on the line itself, and Q
+    the other: so P may be the edge's start or its finish. It is the end from which this gives x and y; if both do, it makes no
+    difference to the position which is taken."""
+
+    edge: int  # of U: edge 0 runs from U0 to U1, 1 from U1 to U2, 2 from U2 to U0
+    line: int  # of V: line 0 goes through V0 and V2, 1 through V0 and V1, 2 through V1 and V2
+    t: float  # 0 <= t <= 1; a zero may be -0.0
+    x: float
+    y: float
+
+
+Corner = Union[VertexOfU, CornerOfV, Crossing]
 
 
 class Kind(enum.Enum):
@@ -178,6 +219,26 @@ def intersect(u: Triangle, v: Triangle) -> Answer:
     _raise_if_refused(got.number)
     ring = tuple((room[2 * k], room[2 * k + 1]) for k in range(got.n))
     return Answer(ring, got.area, _three(got.u_in_v), _three(got.v_in_u), _three(got.neighbour))
+
+
+def corners(u: Triangle, v: Triangle) -> List[Corner]:
+    """What the corners of the ring are that U and V share, in its order; none if there is no ring. Their positions are those of
+    `intersect`, bit for bit. Corners that coincide keep their own kinds. Raises `Refused` where `intersect` does, 1 to 5."""
+    values = _values(u, v)
+    got = _library().meskelow_intersect(values, 12, (ctypes.c_double * 12)(), 12)
+    _raise_if_refused(got.number)
+    return [_corner_at(values, place) for place in range(got.n)]
+
+
+def corner_at(u: Triangle, v: Triangle, place: SupportsIndex) -> Corner:
+    """The corner at a place of the ring, from 0: the one that `corners` has there. What is no index of a list is no place: 1.0 is a
+    TypeError, True is 1. A place below 0 is an OverflowError, as none counts from the end, and so is one above 2^64 - 1, which the
+    library cannot be asked for. Raises `Refused`, 1 to 5 where `intersect` does, and then 6 for a place that is not below the number
+    of corners."""
+    number = operator.index(place)
+    if not 0 <= number < 2**64:  # ctypes would cut it to its lowest 64 bits
+        raise OverflowError("a place in a ring must be from 0 to 18,446,744,073,709,551,615")
+    return _corner_at(_values(u, v), number)
 
 
 def decide(u: Triangle, v: Triangle) -> Decision:
@@ -302,6 +363,13 @@ class _Answer(ctypes.Structure):
     ]
 
 
+class _Corner(ctypes.Structure):
+    _fields_ = [
+        *((name, ctypes.c_uint32) for name in ("number", "kind", "which", "edge", "line")),
+        *((name, ctypes.c_double) for name in ("t", "x", "y")),
+    ]
+
+
 class _Decision(ctypes.Structure):
     _fields_ = [("number", ctypes.c_uint32), ("kind", ctypes.c_uint32), ("area", ctypes.c_double)]
 
@@ -333,6 +401,7 @@ _DOUBLES = ctypes.POINTER(ctypes.c_double)
 _U32S, _U8S, _I32S = ctypes.POINTER(ctypes.c_uint32), ctypes.POINTER(ctypes.c_uint8), ctypes.POINTER(ctypes.c_int32)
 _FUNCTIONS = {
     "meskelow_intersect": (_Answer, [_DOUBLES, ctypes.c_size_t, _DOUBLES, ctypes.c_size_t]),
+    "meskelow_corner_at": (_Corner, [_DOUBLES, ctypes.c_size_t, ctypes.c_size_t]),
     "meskelow_decide": (_Decision, [_DOUBLES, ctypes.c_size_t]),
     "meskelow_check": (_Verdict, [ctypes.c_char_p, ctypes.c_size_t]),
     "meskelow_recording": (_Entry, [ctypes.c_char_p, ctypes.c_size_t, ctypes.c_size_t]),
@@ -385,6 +454,14 @@ def _real(value: float) -> float:
     if isinstance(value, numbers.Complex) and not isinstance(value, numbers.Real):
         raise TypeError(f"a coordinate must be a real number, not {type(value).__name__}")
     return value
+
+
+def _corner_at(values: ctypes.Array[ctypes.c_double], place: int) -> Corner:
+    got = _library().meskelow_corner_at(values, 12, place)
+    _raise_if_refused(got.number)
+    if got.kind == 2:
+        return Crossing(got.edge, got.line, got.t, got.x, got.y)
+    return (VertexOfU, CornerOfV)[got.kind](got.which, got.x, got.y)
 
 
 def _id_of(draft: Draft) -> int:

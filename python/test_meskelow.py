@@ -4,19 +4,21 @@ that `footprint` packs."""
 
 import array
 import contextlib
+import ctypes
 import decimal
 import fractions
 import functools
 import math
 import pathlib
 import pickle
+import random
 import struct
 import threading
 import types
 import unittest
 
 import meskelow
-from meskelow import Kind
+from meskelow import CornerOfV, Crossing, Kind, VertexOfU
 
 try:
     import numpy
@@ -26,9 +28,15 @@ except ImportError:
 EXAMPLES = pathlib.Path(__file__).resolve().parent.parent / "examples"
 
 V = [(0, 0), (4, 0), (0, 4)]
+TURNED_OVER = [(0, 0), (0, 4), (4, 0)]
 A = [(1, 1), (2, 1), (1, 2)]
+B = [(0, 0), (8, 0), (0, 8)]
+C = [(6, 6), (-2, 6), (6, -2)]
 D = [(1, 1), (-3, 1), (1, -3)]
+E = [(10, 10), (11, 10), (10, 11)]
 F = [(0, 0), (4, 0), (0, -4)]
+G = [(-3, 5), (5, -3), (9, 9)]
+FLAT = [(0, 0), (1, 1), (2, 2)]
 
 # Every y of the second is below every y of the first; by rounding they have a ring, with an area of 2^-33.
 BEYOND = [(327628, 2), (-335623, 719289), (-969092, 2)], [(-778994, -314945), (-940499, -380241), (0, 0)]
@@ -126,34 +134,34 @@ class Triangles(Case):
         self.answers(A, V, A, 0.5, "111", "000", "000")
 
     def test_b(self):
-        self.answers([(0, 0), (8, 0), (0, 8)], A, A, 0.5, "000", "111", "111")
+        self.answers(B, A, A, 0.5, "000", "111", "111")
 
     def test_c(self):
         ring = [(2, 6), (0, 6), (0, 4), (4, 0), (6, 0), (6, 2)]
-        self.answers([(6, 6), (-2, 6), (6, -2)], [(0, 0), (8, 0), (0, 8)], ring, 20, "000", "000", "111")
+        self.answers(C, [(0, 0), (8, 0), (0, 8)], ring, 20, "000", "000", "111")
 
     def test_d(self):
         self.answers(D, V, [(1, 1), (0, 1), (0, 0), (1, 0)], 1, "100", "100", "110")
 
     def test_e(self):
-        self.answers([(10, 10), (11, 10), (10, 11)], V, [], 0, "000", "000", "000")
+        self.answers(E, V, [], 0, "000", "000", "000")
 
     def test_f(self):
-        self.answers([(0, 0), (4, 0), (0, -4)], V, [(0, 0), (4, 0), (4, 0), (0, 0)], 0, "110", "000", "010")
+        self.answers(F, V, [(0, 0), (4, 0), (4, 0), (0, 0)], 0, "110", "000", "010")
 
     def test_g(self):
-        self.answers([(-3, 5), (5, -3), (9, 9)], V, [(0, 2), (2, 0), (4, 0), (0, 4)], 6, "000", "011", "111")
+        self.answers(G, V, [(0, 2), (2, 0), (4, 0), (0, 4)], 6, "000", "011", "111")
 
     def test_h(self):
-        self.answers(A, [(0, 0), (0, 4), (4, 0)], A, 0.5, "111", "000", "000")
+        self.answers(A, TURNED_OVER, A, 0.5, "111", "000", "000")
 
     def test_i_flat_v(self):
         with self.refused(3, 0):
-            meskelow.intersect(A, [(0, 0), (1, 1), (2, 2)])
+            meskelow.intersect(A, FLAT)
 
     def test_j_flat_u(self):
         with self.refused(5, 0):
-            meskelow.intersect([(0, 0), (1, 1), (2, 2)], V)
+            meskelow.intersect(FLAT, V)
 
     def test_k_nan(self):
         for place in range(12):
@@ -206,6 +214,249 @@ class Triangles(Case):
         self.assertEqual(meskelow.intersect([(whole, 0), (0, 9), (0, 0)], V), meskelow.intersect([(2.0**53, 0), (0, 9), (0, 0)], V))
 
 
+def bits(*values):
+    """The bits of f64 values, by which 0.0 is not -0.0."""
+    return struct.pack(f"<{len(values)}d", *values)
+
+
+def cross(p, q):
+    return p[0] * q[1] - p[1] * q[0]
+
+
+def less(p, q):
+    return p[0] - q[0], p[1] - q[1]
+
+
+def parameters(vertex, v):
+    """x, y and w of a vertex of U, by the rules."""
+    a, b, r = less(v[1], v[0]), less(v[2], v[0]), less(vertex, v[0])
+    d, x, y = cross(a, b), cross(r, b), cross(a, r)
+    if d < 0:
+        d, x, y = -d, -x, -y
+    return x, y, (d - x) - y
+
+
+class Corners(Case):
+    def has(self, u, v, *expected):
+        """Bit for bit; and place by place, with 6 behind the last."""
+        got = meskelow.corners(u, v)
+        self.assertIs(type(got), list)
+        for one, other in zip(got, expected):
+            self.same(one, other)
+        self.assertEqual(len(got), len(expected))
+        for place, corner in enumerate(got):
+            self.same(meskelow.corner_at(u, v, place), corner)
+        for place in (len(got), len(got) + 1, 2**8, 2**31, 2**32, 2**32 + 1, 2**63, 2**64 - 1):
+            with self.subTest(place=place), self.refused(6, 0):
+                meskelow.corner_at(u, v, place)
+        self.assertEqual([bits(c.x, c.y) for c in got], [bits(*position) for position in meskelow.intersect(u, v).ring])
+
+    def same(self, got, expected):
+        self.assertEqual((type(got), got), (type(expected), expected))
+        for name, value in vars(expected).items():
+            if name in ("t", "x", "y"):
+                self.assertIs(type(getattr(got, name)), float)
+                self.assertEqual(bits(getattr(got, name)), bits(value), name)
+
+    def never(self, number, u, v):
+        """Refused at any place, and as a whole unless it is for the place."""
+        for place in (0, 1, 5, 6, 2**32, 2**64 - 1):
+            with self.subTest(place=place), self.refused(number, 0):
+                meskelow.corner_at(u, v, place)
+        if number != 6:
+            with self.refused(number, 0):
+                meskelow.corners(u, v)
+
+    def test_a(self):
+        self.has(A, V, VertexOfU(0, 1, 1), VertexOfU(1, 2, 1), VertexOfU(2, 1, 2))
+
+    def test_b(self):
+        self.has(B, A, CornerOfV(0, 1, 1), CornerOfV(1, 2, 1), CornerOfV(2, 1, 2))
+
+    def test_c(self):
+        """x, y and w are 48, 48, -32 at U0, -16, 48, 32 at U1 and 48, -16, 32 at U2."""
+        self.has(
+            C,
+            [(0, 0), (8, 0), (0, 8)],
+            Crossing(0, 2, 0.5, 2, 6),
+            Crossing(0, 0, 0.75, 0, 6),
+            Crossing(1, 0, 0.75, 0, 4),
+            Crossing(1, 1, 0.75, 4, 0),
+            Crossing(2, 1, 0.75, 6, 0),
+            Crossing(2, 2, 0.5, 6, 2),
+        )
+
+    def test_d(self):
+        """x and y are 4 at U0; x is -12 at U1, and y at U2."""
+        self.has(D, V, VertexOfU(0, 1, 1), Crossing(0, 0, 0.25, 0, 1), CornerOfV(0, 0, 0), Crossing(2, 1, 0.25, 1, 0))
+
+    def test_e(self):
+        self.has(E, V)
+        self.never(6, E, V)
+
+    def test_f(self):
+        """Two corners at (4,0) and two at (0,0): what a corner is does not go by where it stands."""
+        self.has(F, V, VertexOfU(0, 0, 0), VertexOfU(1, 4, 0), Crossing(1, 1, 0, 4, 0), Crossing(2, 1, 0, 0, 0))
+
+    def test_g(self):
+        """x is -12 at U0 and 20 at U1, y the other way round."""
+        self.has(G, V, Crossing(0, 0, 0.625, 0, 2), Crossing(0, 1, 0.625, 2, 0), CornerOfV(1, 4, 0), CornerOfV(2, 0, 4))
+
+    def test_h(self):
+        self.has(A, TURNED_OVER, VertexOfU(0, 1, 1), VertexOfU(1, 2, 1), VertexOfU(2, 1, 2))
+
+    def test_v_turned_over(self):
+        """Lines 0 and 1 change places. With F a parameter of 0.0 is negated, as d is below zero, and t is -0.0."""
+        self.has(D, TURNED_OVER, VertexOfU(0, 1, 1), Crossing(0, 1, 0.25, 0, 1), CornerOfV(0, 0, 0), Crossing(2, 0, 0.25, 1, 0))
+        self.has(F, TURNED_OVER, VertexOfU(0, 0, 0), VertexOfU(1, 4, 0), Crossing(1, 0, -0.0, 4, 0), Crossing(2, 0, -0.0, 0, 0))
+
+    def test_t_is_measured_from_the_end_with_plus(self):
+        """x is 4 at that end and -8 at the other, whichever of the two the edge starts from."""
+        third = 1 / 3
+        leaving = [(1, 1), (-2, 1), (1, 2)]
+        self.has(leaving, V, VertexOfU(0, 1, 1), Crossing(0, 0, third, 0, 1), Crossing(1, 0, third, 0, 2 - third), VertexOfU(2, 1, 2))
+        entering = [(-2, 1), (1, 1), (1, 2)]
+        self.has(entering, V, Crossing(0, 0, third, 0, 1), VertexOfU(1, 1, 1), VertexOfU(2, 1, 2), Crossing(2, 0, third, 0, 2 - third))
+
+    def test_t_is_one(self):
+        """x is 4 at U0 and U2 and -2^-58 at U1, and their difference is rounded to 4."""
+        u = [(1, 1), (-(2.0**-60), 1), (1, 2)]
+        self.has(u, V, VertexOfU(0, 1, 1), Crossing(0, 0, 1, 0, 1), Crossing(1, 0, 1, 0, 1), VertexOfU(2, 1, 2))
+
+    def test_corners_that_coincide(self):
+        """Vertices of U on corners of V are vertices; and where an edge passes through V0 there are two crossings."""
+        for v in (V, TURNED_OVER):
+            self.has(V, v, VertexOfU(0, 0, 0), VertexOfU(1, 4, 0), VertexOfU(2, 0, 4))
+        through = meskelow.corners([(-1, 1), (1, -1), (9, 9)], V)
+        self.assertEqual(through[:2], [Crossing(0, 0, 0.5, 0, 0), Crossing(0, 1, 0.5, 0, 0)])
+        self.assertNotEqual(VertexOfU(0, 0, 0), CornerOfV(0, 0, 0))
+        self.assertNotEqual(CornerOfV(0, 0, 0), VertexOfU(0, 0, 0))
+
+    def test_zeros_that_are_copied(self):
+        self.has([(-0.0, 0), (1, -0.0), (0, 1)], V, VertexOfU(0, -0.0, 0), VertexOfU(1, 1, -0.0), VertexOfU(2, 0, 1))
+        v = [(-0.0, -0.0), (1, -0.0), (-0.0, 1)]
+        self.has([(-8, -8), (16, -8), (-8, 16)], v, CornerOfV(0, -0.0, -0.0), CornerOfV(1, 1, -0.0), CornerOfV(2, -0.0, 1))
+
+    def test_far_boxes_are_no_matter(self):
+        self.assertEqual(meskelow.decide(*BEYOND), (Kind.APART, 0))
+        ring = meskelow.intersect(*BEYOND).ring
+        self.assertEqual([(c.x, c.y) for c in meskelow.corners(*BEYOND)], list(ring))
+        self.assertNotEqual(ring, ())
+
+    def test_refused_cases(self):
+        self.never(3, A, FLAT)
+        self.never(5, FLAT, V)
+        self.never(4, A, [(0, 0), (1e300, 0), (0, 1e300)])
+        for v in (V, FLAT):
+            for place in range(12):
+                values = [float(c) for vertex in A + v for c in vertex]
+                values[place] = math.nan
+                vertices = list(zip(values[::2], values[1::2]))
+                self.never(2, vertices[:3], vertices[3:])
+
+    def test_another_corner_overflows(self):
+        """U0 lies in V, and edge 1 passes through V from -end to end: with 2^1023 Q - P is not finite there, and no corner is told."""
+        h = 2.0**-520
+        for end, number in [(2.0**1022, None), (2.0**1023, 4)]:
+            u, v = [(1, h / 2), (-end, h), (end, h)], [(0, 0), (4, 0), (0, 4 * h)]
+            if number is None:
+                self.same(meskelow.corner_at(u, v, 0), VertexOfU(0, 1, h / 2))
+            else:
+                self.never(number, u, v)
+
+    def test_lengths(self):
+        """The library judges any number of values, NULL too, and has zeros beside every refusal."""
+        ask = meskelow._library().meskelow_corner_at
+        for length in (*range(12), *range(13, 27)):
+            for value in (1.0, math.nan):
+                values = (ctypes.c_double * length)(*[value] * length)
+                for place in (0, 2**64 - 1):
+                    self.zeros(1, ask(values, length, place))
+        self.zeros(1, ask(None, 0, 0))
+        values = (ctypes.c_double * 12)(*(c for vertex in D + V for c in vertex))
+        self.zeros(6, ask(values, 12, 4))
+        self.zeros(6, ask(values, 12, 2**32))
+        values[3] = math.inf
+        self.zeros(2, ask(values, 12, 0))
+
+    def zeros(self, number, got):
+        self.assertEqual((got.number, got.kind, got.which, got.edge, got.line), (number, 0, 0, 0, 0))
+        self.assertEqual(bits(got.t, got.x, got.y), bytes(24))
+
+    def test_layout(self):
+        corner = meskelow._Corner
+        self.assertEqual((ctypes.sizeof(corner), corner.line.offset, corner.t.offset, corner.x.offset, corner.y.offset), (48, 16, 24, 32, 40))
+
+    def test_shapes(self):
+        four = V + [(1, 1)]
+        for u, v in [(V[:2], four), (four, V[:2]), (V[:2], V), (V, []), (V, [(0, 0), (4, 0, 0), (4,)])]:
+            self.never(1, u, v)
+        for u in [("aa", "bb", "cc"), [(None, 0), (1, 0), (0, 1)], [(1j, 0), (1, 0), (0, 1)], [0, 0, 1], 1, None]:
+            with self.assertRaises(TypeError):
+                meskelow.corners(u, V)
+            with self.assertRaises(TypeError):
+                meskelow.corner_at(u, V, 0)
+        with self.assertRaises(OverflowError):
+            meskelow.corners([(10**400, 1), (-3, 1), (1, -3)], V)
+
+    def test_places(self):
+        """Those that no ring has are 6; what no size_t holds is an error of Python's, whatever the triangles are."""
+        for place in (1, True, Whole(1)):
+            self.same(meskelow.corner_at(D, V, place), Crossing(0, 0, 0.25, 0, 1))
+        for place in (1.0, math.nan, "1", None, 1j, Scalar(1), fractions.Fraction(1), [1]):
+            for u, v in [(D, V), (A, FLAT)]:
+                with self.subTest(place=place), self.assertRaises(TypeError):
+                    meskelow.corner_at(u, v, place)
+        for place in (-1, -4, -(2**32), -(2**64), -(2**64) + 1, Whole(-1), 2**64, 2**64 + 1, 2**65, 10**5000):
+            for u, v in [(D, V), (E, V), (A, FLAT), (V, [])]:
+                with self.assertRaises(OverflowError) as caught:
+                    meskelow.corner_at(u, v, place)
+                self.assertIn("from 0 to 18,446,744,073,709,551,615", str(caught.exception))
+
+    def test_kinds_of_triangles_and_numbers(self):
+        expected = meskelow.corners(D, V)
+        for u, v in [(tuple(D), tuple(V)), ([list(c) for c in D], [array.array("d", c) for c in V]), (Array(D), Array(V))]:
+            self.assertEqual(meskelow.corners(u, v), expected)
+        for kind in (float, Scalar, Whole, fractions.Fraction, decimal.Decimal):
+            u, v = ([(kind(x), kind(y)) for x, y in triangle] for triangle in (D, V))
+            self.assertEqual(meskelow.corners(u, v), expected)
+            self.assertEqual(meskelow.corner_at(u, v, 3), expected[3])
+
+    def test_corners_stay_as_they_are(self):
+        for corner in meskelow.corners(D, V):
+            self.assertEqual((pickle.loads(pickle.dumps(corner)), hash(corner)), (corner, hash(corner)))
+            with self.assertRaises(AttributeError):
+                corner.x = 1.0
+        self.assertEqual(repr(meskelow.corner_at(D, V, 1)), "Crossing(edge=0, line=0, t=0.25, x=0.0, y=1.0)")
+
+    def test_how_p_is_told(self):
+        """Of a crossing's ends one is plus on its line, by the rules' parameter, and t leads from there to its very position."""
+        source = random.Random(4)
+        grids = [lambda: source.randint(-4, 4), lambda: source.randint(-1000000, 1000000), lambda: source.uniform(-1, 1)]
+        found = {kind: 0 for kind in (VertexOfU, CornerOfV, Crossing)}
+        for _ in range(1000):
+            draw = source.choice(grids)
+            u, v = ([(float(draw()), float(draw())) for _ in range(3)] for _ in range(2))
+            try:
+                got = meskelow.corners(u, v)
+            except meskelow.Refused as refused:
+                self.assertIn(refused.number, (3, 5))
+                continue
+            self.assertEqual([bits(c.x, c.y) for c in got], [bits(*position) for position in meskelow.intersect(u, v).ring])
+            for corner in got:
+                found[type(corner)] += 1
+                position = {VertexOfU: u, CornerOfV: v}.get(type(corner))
+                if position is None:
+                    ends = [u[corner.edge], u[(corner.edge + 1) % 3]]
+                    (p, a), (q, b) = sorted(((end, parameters(end, v)[corner.line]) for end in ends), key=lambda end: end[1] < 0)
+                    self.assertTrue(b < 0 <= a and 0 <= corner.t <= 1)
+                    self.assertEqual(bits(corner.t), bits(a / (a - b)))
+                    self.assertEqual(bits(corner.x, corner.y), bits(*(p[k] + corner.t * (q[k] - p[k]) for k in range(2))))
+                else:
+                    self.assertEqual(bits(corner.x, corner.y), bits(*position[corner.which]))
+        self.assertGreater(min(found.values()), 100)
+
+
 class Decisions(Case):
     def decides(self, u, v, kind, area):
         got = meskelow.decide(u, v)
@@ -217,23 +468,22 @@ class Decisions(Case):
     def test_worked_cases(self):
         for case, u, v, kind, area in [
             ("A", A, V, Kind.OVERLAPPING, 0.5),
-            ("B", [(0, 0), (8, 0), (0, 8)], A, Kind.OVERLAPPING, 0.5),
-            ("C", [(6, 6), (-2, 6), (6, -2)], [(0, 0), (8, 0), (0, 8)], Kind.OVERLAPPING, 20),
+            ("B", B, A, Kind.OVERLAPPING, 0.5),
+            ("C", C, [(0, 0), (8, 0), (0, 8)], Kind.OVERLAPPING, 20),
             ("D", D, V, Kind.OVERLAPPING, 1),
-            ("E", [(10, 10), (11, 10), (10, 11)], V, Kind.APART, 0),
+            ("E", E, V, Kind.APART, 0),
             ("F", F, V, Kind.TOUCHING, 0),
-            ("G", [(-3, 5), (5, -3), (9, 9)], V, Kind.OVERLAPPING, 6),
-            ("H", A, [(0, 0), (0, 4), (4, 0)], Kind.OVERLAPPING, 0.5),
+            ("G", G, V, Kind.OVERLAPPING, 6),
+            ("H", A, TURNED_OVER, Kind.OVERLAPPING, 0.5),
         ]:
             with self.subTest(case=case):
                 self.decides(u, v, kind, area)
 
     def test_refused_cases(self):
-        flat = [(0, 0), (1, 1), (2, 2)]
-        for case, u, v, number in [("I", A, flat, 3), ("J", flat, V, 5), ("L", A, [(0, 0), (1e300, 0), (0, 1e300)], 4)]:
+        for case, u, v, number in [("I", A, FLAT, 3), ("J", FLAT, V, 5), ("L", A, [(0, 0), (1e300, 0), (0, 1e300)], 4)]:
             with self.subTest(case=case), self.refused(number, 0):
                 meskelow.decide(u, v)
-        for v in (V, flat):
+        for v in (V, FLAT):
             for place in range(12):
                 values = [float(c) for vertex in A + v for c in vertex]
                 values[place] = float("nan")
@@ -698,6 +948,7 @@ class Numpy(Case):
                 self.assertEqual(meskelow.intersect(list(pair[0]), [tuple(c) for c in pair[1]]), expected)
                 self.assertEqual(meskelow.decide(*pair), (Kind.OVERLAPPING, 1))
                 self.assertEqual(meskelow.decide(*numpy.array([F, V], dtype=kind)), (Kind.TOUCHING, 0))
+                self.assertEqual(meskelow.corners(*pair), meskelow.corners(D, V))
         pair = numpy.array([D, V], dtype="f8")
         doubled = numpy.repeat(numpy.repeat(pair, 2, axis=1), 3, axis=2)
         for u, v in [
@@ -713,23 +964,25 @@ class Numpy(Case):
         got = meskelow.intersect(*numpy.array([D, V], dtype="f4"))
         self.assertEqual({type(c) for corner in got.ring for c in corner} | {type(got.area)}, {float})
         self.assertIs(type(meskelow.decide(*numpy.array([D, V], dtype="f4")).area), float)
+        corner = meskelow.corner_at(*numpy.array([D, V], dtype="f4"), 1)
+        self.assertEqual([type(value) for value in (corner.edge, corner.line, corner.t, corner.x, corner.y)], [int, int, float, float, float])
 
     def test_refused(self):
         pair = numpy.array([D, V], dtype="f8")
         for u in (pair, pair[0, :2], pair[0, :, :1], pair[0].T, numpy.zeros((3, 3)), numpy.zeros(12), numpy.zeros((0, 2))):
-            for ask in (meskelow.intersect, meskelow.decide):
+            for ask in (meskelow.intersect, meskelow.decide, meskelow.corners):
                 with self.subTest(shape=u.shape), self.refused(1, 0):
                     ask(u, V)
         for value in (numpy.nan, numpy.inf):
             pair[0, 0, 0] = value
-            for ask in (meskelow.intersect, meskelow.decide):
+            for ask in (meskelow.intersect, meskelow.decide, meskelow.corners):
                 with self.refused(2, 0):
                     ask(*pair)
 
     def test_no_numbers(self):
         for kind in ("c16", "c8", "G", "U4", "S4"):
             pair = numpy.array([D, V], dtype=kind)
-            for ask in (meskelow.intersect, meskelow.decide):
+            for ask in (meskelow.intersect, meskelow.decide, meskelow.corners):
                 with self.subTest(kind=kind), self.assertRaises(TypeError):
                     ask(*pair)
 
@@ -759,9 +1012,12 @@ class Numpy(Case):
     def test_indexes(self):
         for kind in (numpy.int64, numpy.uint8, numpy.int32):
             self.assertEqual(meskelow.recording(LEAK, kind(1)).id, 9)
+            self.assertEqual(meskelow.corner_at(D, V, kind(1)), Crossing(0, 0, 0.25, 0, 1))
         for k in (numpy.float64(1), numpy.float32(1), numpy.nan):
             with self.assertRaises(TypeError):
                 meskelow.recording(LEAK, k)
+            with self.assertRaises(TypeError):
+                meskelow.corner_at(D, V, k)
 
 
 class Errors(Case):
@@ -776,6 +1032,7 @@ class Errors(Case):
         for number, words in [
             (meskelow.REFUSED_LENGTHS, "there are not twelve values"),
             (meskelow.REFUSED_FLAT_V, "V is flat"),
+            (meskelow.REFUSED_NO_CORNER, "the ring has no such corner"),
             (meskelow.REFUSED_STORED_LENGTH, "the length in the trailer is not the file's"),
             (meskelow.REFUSED_NO_AREA, "a triangle has no area"),
             (meskelow.REFUSED_FILE_ROOM, "the room is shorter than the file to be written, or "),
@@ -805,6 +1062,8 @@ class Errors(Case):
         for text in (words, "run 'rt staticlib meskelow && python3 python/meskelow.py build'"):
             self.says(text, meskelow.intersect, A, V)
             self.says(text, meskelow.decide, A, V)
+            self.says(text, meskelow.corners, A, V)
+            self.says(text, meskelow.corner_at, A, V, 0)
             self.says(text, meskelow.check, LEAK)
             self.says(text, meskelow.recording, LEAK, 0)
             self.says(text, meskelow.write, [])

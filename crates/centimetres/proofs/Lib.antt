@@ -4,7 +4,6 @@ pub mod Zero
 pub mod Ways
 pub mod Parameters
 pub mod Pair
-pub mod Crossed
 pub mod Positions
 pub mod Area
 pub mod Never

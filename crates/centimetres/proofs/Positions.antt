@@ -25,7 +25,7 @@ use Rattle.triangles.specs.Refusals.{positionsWay}
 use Rattle.triangles.proofs.Demand.{inRange as hasNumbers, fifteen-in-range, sound}
 use Rattle.centimetres.proofs.Ways.{Under, Whole, under-plus, under-times, under-divided, under-more, under-given, whole-minus, whole-under}
 use Rattle.centimetres.proofs.Parameters.{WholePoint}
-use Rattle.centimetres.proofs.Crossed.{crossed}
+use Rattle.triangles.proofs.Crossed.{crossed}
 use Rattle.centimetres.proofs.Pair.{Twelve, ends, values, numbersAt, point-whole, parameter-at, sign-at}
 
 -- a point below 2 ^ 70

@@ -1,0 +1,4 @@
+pub mod Signs
+pub mod Corner
+pub mod Returned
+pub mod InOrder

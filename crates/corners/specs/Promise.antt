@@ -69,10 +69,10 @@ pub record CrossingTold (values : List Float) (result : Told) (P Q : ℕ) : Type
   pub x : result .x ≡ partWay (result .t) (getD values (2 * P) nan) (getD values (2 * Q) nan)
   pub y : result .y ≡ partWay (result .t) (getD values (2 * P + 1) nan) (getD values (2 * Q + 1) nan)
 
--- ---- what holds of a corner that is told
-pub record CornerTold (values : List Float) (place : ℕ) (result : Told) : Type 0 where
-  -- it is the ring's corner at that place
-  pub isPlace : placeTold result ≡ getD (wholeOf values enough .ring) place (vertex 0)
+-- ---- what holds of a corner that is told, of the place p of the ring
+pub record PlaceTold (values : List Float) (p : Place) (result : Told) : Type 0 where
+  -- it names that place
+  pub isPlace : placeTold result ≡ p
   pub kinds : result .kind ≤ 2
   pub numbers : (result .which < 3) × (result .edge < 3) × (result .line < 3)
   -- what its kind does not have is zero
@@ -103,7 +103,7 @@ pub record CornerDemand (values : List Float) (place : ℕ) (result : Told) : Ty
   -- beside a refusal's number there are zeros
   pub zeros : (result .number ≡ 0 → ⊥) → Zeros result
   -- what is told is a corner of the ring, at the values that an answer writes for it, whatever room it is lent
-  pub corner : result .number ≡ 0 → CornerTold values place result
+  pub corner : result .number ≡ 0 → PlaceTold values (getD (wholeOf values enough .ring) place (vertex 0)) result
   pub written : result .number ≡ 0 → (room : List Float) → 12 ≤ length room → Stands (wholeOf values room .room) place result
 
 abbrev pub CornerReturned : Type 0

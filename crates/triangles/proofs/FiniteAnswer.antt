@@ -30,7 +30,7 @@ use Rattle.triangles.proofs.Rows.{by-none, number-is, answered-is}
 use Rattle.triangles.proofs.Demand.{inRange, fifteen-in-range, sound, front}
 
 -- the last value on a way that is fine
-last-finite : (v : Float) (before : List Float) → T (fine (step v before)) → T (finite v)
+pub last-finite : (v : Float) (before : List Float) → T (fine (step v before)) → T (finite v)
 last-finite v before t = and-r (all finite before) (finite v) (os (sym (fine-step v before) ∙ so t))
 
 sum-finite : (a b : Way) → T (fine (a ⊕ b)) → T (finite ((a ⊕ b) .value))
@@ -40,7 +40,7 @@ product-finite : (a b : Way) → T (fine (a ⊗ b)) → T (finite ((a ⊗ b) .va
 product-finite a b t = last-finite ((a ⊗ b) .value) (a .way ++ b .way) t
 
 -- a row of values that does not apply
-none-missing : (vs : List Float) → (NotFinite vs → ⊥) → T (all finite vs)
+pub none-missing : (vs : List Float) → (NotFinite vs → ⊥) → T (all finite vs)
 none-missing vs h = go (all finite vs) refl
   where
     go : (b : Bool) → all finite vs ≡ b → T (all finite vs)
@@ -109,7 +109,7 @@ module _ (l room : List Float) where
   coordinates-finite : refusalOf l room ≡ 0 → (k : ℕ) → k < 12 → T (finite (getD l k nan))
   coordinates-finite h k b = all-getD finite l k nan (none-missing l (passed h coordinates)) (rw (twelve h) b)
 
-  ring-in-range : T (all inRange (ringOf l))
+  pub ring-in-range : T (all inRange (ringOf l))
   unfolding ringOf
   ring-in-range = all-of inRange (ringOf l) (λ p m. all-at inRange fifteen fifteen-in-range (sound l .holds .nothingElse p m))
 

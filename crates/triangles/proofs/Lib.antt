@@ -5,6 +5,8 @@ pub mod Nought
 pub mod Parted
 pub mod Decided
 pub mod Demand
+pub mod Crossed
+pub mod Component
 pub mod Rest
 pub mod FiniteAnswer
 pub mod Told
