@@ -50,8 +50,8 @@ all-positions f (suc n) (x ∷ y ∷ vs) i e h =
     let r = h 0 (omega arith) in
     ap₂ _∷_ (ap (λ k. f k .x) (zero-right i) ∙ r .0) (ap₂ _∷_ (ap (λ k. f k .y) (zero-right i) ∙ r .1)
     (all-positions f n vs (suc i) (omega (arith, e)) (λ k b.
-        let q = h (suc k) (omega (arith, b)) in
-        (ap (λ j. f j .x) (next i k) ∙ (q .0 ∙ ap (λ j. getD (x ∷ y ∷ vs) j nan) (even k)), ap (λ j. f j .y) (next i k) ∙ (q .1 ∙ ap (λ j. getD (x ∷ y ∷ vs) j nan) (odd k))))))
+    let q = h (suc k) (omega (arith, b)) in
+    (ap (λ j. f j .x) (next i k) ∙ (q .0 ∙ ap (λ j. getD (x ∷ y ∷ vs) j nan) (even k)), ap (λ j. f j .y) (next i k) ∙ (q .1 ∙ ap (λ j. getD (x ∷ y ∷ vs) j nan) (odd k))))))
   where
     even : (k : ℕ) → 2 * suc k ≡ suc (suc (2 * k))
     even k = omega arith

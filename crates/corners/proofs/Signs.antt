@@ -109,7 +109,6 @@ module _ (l : List Float) (passed : NoRow l enough) where
   way-of : (i : ℕ) → i < 3 → T (all finite (parametersWay (parametersOf l i)))
   way-of i h = pick i h
     where
-
       a : T (all finite (parametersWay (parametersOf l 0)) && all finite (parametersWay (parametersOf l 1) ++ parametersWay (parametersOf l 2)))
       a = os (sym (all-append finite (parametersWay (parametersOf l 0)) (parametersWay (parametersOf l 1) ++ parametersWay (parametersOf l 2))) ∙ so ways)
 

@@ -34,15 +34,19 @@ told c = toldBy (c .kind) (c .x) (c .y)
 abbrev pub noCorner : ℕ → Told
 noCorner k = record { number = k; kind = 0; which = 0; edge = 0; line = 0; t = nought; x = nought; y = nought }
 
+-- a place that is not below n
+abbrev pub noSuchCorner : Told
+noSuchCorner = noCorner 6
+
 -- ---- a corner asked for
 -- the corner at a place of the ring
 unfoldable pub cornerAt : List Float → ℕ → Corner
 unfolding ringOf placedAt
 cornerAt values place = valued (placedAt values (getD (ringOf values) place (vertex 0)))
 
--- the refusals of 01, of the input alone since no room is lent; then 6 for a place that is not below n; then the corner at that place
+-- the refusals of 01, of the input alone since no room is lent; then that of a place that is not below n; then the corner at that place
 unfoldable pub toldAt : List Float → ℕ → Told
 unfolding wholeOf cornerAt
 toldAt values place =
     let a = answerTo values in
-    cond (eqb (a .number) 0) (cond (ltb place (a .n)) (told (cornerAt values place)) (noCorner 6)) (noCorner (a .number))
+    cond (eqb (a .number) 0) (cond (ltb place (a .n)) (told (cornerAt values place)) noSuchCorner) (noCorner (a .number))

@@ -95,12 +95,7 @@ fn placed(
 }
 
 // From the parameters on: the orders along U's edges are decided, all three.
-fn ordered(
-    values: &[f64],
-    p: lines::Params,
-    q: lines::Params,
-    r: lines::Params,
-) -> Found
+fn ordered(values: &[f64], p: lines::Params, q: lines::Params, r: lines::Params) -> Found
     requires { ⌜ length (now values) ≡ 12 ⌝ }
     ensures { λ f. ⌜ Finds (orderedBy (now (values .entry)) p q r) f ⌝ }
 {
