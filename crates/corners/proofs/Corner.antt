@@ -20,6 +20,7 @@ use Rattle.ring.specs.Places.{Place, vertex, corner, crossing}
 use Rattle.triangles.specs.declared.Kind.the-variants.{Vertex, Reference, Crossing}
 use Rattle.triangles.specs.Pair.{vertexOf, carriedBy, signsBy, ringOf}
 use Rattle.triangles.specs.Positions.{Placed, crossingFrom, placedAt, positionOf, ringPositions}
+use Rattle.triangles.specs.Placing.{plusEnd, otherEnd, parameterAt}
 use Rattle.triangles.specs.Refusals.{wayToPosition, positionsWay, wayOf}
 use Rattle.triangles.specs.Rows.{NoRow}
 use Rattle.triangles.specs.Decision.{enough}
@@ -29,7 +30,7 @@ use Rattle.triangles.proofs.Component.{denominator-fine, fine-carried, end-belo
 use Rattle.triangles.proofs.FiniteAnswer.{none-missing, ring-in-range}
 use Rattle.corners.specs.declared.Told.{Told}
 use Rattle.corners.specs.Corners.{valued, told}
-use Rattle.corners.specs.Promise.{plusEnd, otherEnd, parameterAt, CrossingTold, PlaceTold}
+use Rattle.corners.specs.Promise.{CrossingTold, PlaceTold}
 use Rattle.corners.proofs.Signs.{parameter-fits, plus-at-least, minus-under}
 
 -- of two signs that differ, one being plus

@@ -18,11 +18,11 @@ use Rattle.floats.proofs.Fractions.{minus-below, turned-above, less-two-below}
 use Rattle.lines.specs.Parameters.{signs, lastUnseen}
 use Rattle.order.specs.PairTest.{signsOfU}
 use Rattle.triangles.specs.Pair.{vertexOf, cornerOf, dOfV, parametersOf, paramsOf, carriedBy, vertexSigns, signsBy}
+use Rattle.triangles.specs.Placing.{parameterAt}
 use Rattle.triangles.specs.Refusals.{wayToD, dZero, wayToParameter, parametersWay, wayOf}
 use Rattle.triangles.specs.Rows.{NoRow}
 use Rattle.triangles.specs.Decision.{enough}
 use Rattle.triangles.proofs.FiniteAnswer.{last-finite, none-missing}
-use Rattle.corners.specs.Promise.{parameterAt}
 
 -- ---- a difference, turned or not
 turned-fits : (b : Bool) (u v : Way) → T (fits binary64 (cond b (negated (u ⊖ v)) (u ⊖ v) .value))

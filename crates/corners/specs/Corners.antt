@@ -21,10 +21,14 @@ use Rattle.corners.specs.declared.Told.{Told}
 abbrev pub valued : Placed → Corner
 valued c = record { kind = c .kind; x = c .position .x .value; y = c .position .y .value }
 
--- in numbers: kind 0 is a vertex of U and kind 1 a corner of V, which of them, and 2 a crossing, with its edge, its line and its t. What a kind does not have is zero
+-- one that is no crossing, in numbers: its edge, line and t are zero
+abbrev pub plain : ℕ → ℕ → Float → Float → Told
+plain kind which x y = record { number = 0; kind = kind; which = which; edge = 0; line = 0; t = nought; x = x; y = y }
+
+-- kind 0 is a vertex of U and kind 1 a corner of V, which of them; kind 2 is a crossing, with its edge, its line and its t, and its which is zero
 abbrev pub toldBy : Kind → Float → Float → Told
-toldBy (Vertex i) x y = record { number = 0; kind = 0; which = i; edge = 0; line = 0; t = nought; x = x; y = y }
-toldBy (Reference k) x y = record { number = 0; kind = 1; which = k; edge = 0; line = 0; t = nought; x = x; y = y }
+toldBy (Vertex i) x y = plain 0 i x y
+toldBy (Reference k) x y = plain 1 k x y
 toldBy (Crossing e a t) x y = record { number = 0; kind = 2; which = 0; edge = e; line = a; t = t; x = x; y = y }
 
 abbrev pub told : Corner → Told

@@ -6,14 +6,14 @@ use mathlib.Core.List.{List, [], _∷_, map}
 use Prim.Native.Nat.{ℕ, _+_, _*_, _<_, _≤_}
 use lib.Dec.{eqb}
 use lib.ListN.{length, getD, take}
-use lib.Ieee.{Float, nan, binary64, add, sub, mul, div, le, ofBits}
+use lib.Ieee.{Float, binary64, le, ofBits}
 use Rattle.floats.specs.Finite.{nought}
 use Rattle.floats.specs.OneAnswer.{NoSecond}
 use Rattle.lines.specs.Lines.{upFrom, start, finish}
 use Rattle.lines.specs.Crossings.{crosses}
-use Rattle.lines.specs.Parameters.{parameter}
 use Rattle.ring.specs.Places.{Place, vertex, corner, crossing}
-use Rattle.triangles.specs.Pair.{signsBy, carriedBy}
+use Rattle.triangles.specs.Pair.{signsBy}
+use Rattle.triangles.specs.Placing.{plusEnd, otherEnd, fractionAt, partWay, xAt, yAt}
 use Rattle.triangles.specs.Answers.{wholeOf}
 use Rattle.triangles.specs.Rows.{RefusedBy, NoRow}
 use Rattle.triangles.specs.Decision.{enough, answerTo}
@@ -33,25 +33,10 @@ NoSecondCorner = (values : List Float) (place : ℕ) → NoSecond Told (CornerPr
 abbrev pub placeTold : Told → Place
 placeTold r = cond (eqb (r .kind) 0) (vertex (r .which)) (cond (eqb (r .kind) 1) (corner (r .which)) (crossing (r .edge) (r .line)))
 
--- position k of the values: U0, U1, U2, V0, V1, V2 are 0 to 5
+-- it stands at position k of these values: of the input's, U0, U1, U2, V0, V1, V2 are 0 to 5
 pub record Stands (values : List Float) (k : ℕ) (result : Told) : Type 0 where
-  pub x : result .x ≡ getD values (2 * k) nan
-  pub y : result .y ≡ getD values (2 * k + 1) nan
-
--- the end of edge e that is plus on line a, and the other: P and Q
-abbrev pub plusEnd : List Float → ℕ → ℕ → ℕ
-plusEnd values e a = cond (signsBy values (start e) a) (start e) (finish e)
-
-abbrev pub otherEnd : List Float → ℕ → ℕ → ℕ
-otherEnd values e a = cond (signsBy values (start e) a) (finish e) (start e)
-
--- the parameter of vertex i on line a
-abbrev pub parameterAt : List Float → ℕ → ℕ → Float
-parameterAt values i a = parameter (carriedBy values i) a .value
-
--- P + t·(Q − P) of one component, each operation rounded once
-abbrev pub partWay : Float → Float → Float → Float
-partWay t p q = add binary64 p (mul binary64 t (sub binary64 q p))
+  pub x : result .x ≡ xAt values k
+  pub y : result .y ≡ yAt values k
 
 abbrev pub one : Float
 one = ofBits binary64 0x3ff0_0000_0000_0000
@@ -62,12 +47,12 @@ pub record CrossingTold (values : List Float) (result : Told) (P Q : ℕ) : Type
   pub differ : crosses (signsBy values (start (result .edge))) (signsBy values (finish (result .edge))) (result .line) ≡ true
   pub plus : signsBy values P (result .line) ≡ true
   -- t is a_P / (a_P − a_Q), from 0 to 1, both included, whatever rounding did
-  pub t : result .t ≡ div binary64 (parameterAt values P (result .line)) (sub binary64 (parameterAt values P (result .line)) (parameterAt values Q (result .line)))
+  pub t : result .t ≡ fractionAt values P Q (result .line)
   pub from : le nought (result .t) ≡ true
   pub to : le (result .t) one ≡ true
   -- and it stands at P + t·(Q − P), of that very t
-  pub x : result .x ≡ partWay (result .t) (getD values (2 * P) nan) (getD values (2 * Q) nan)
-  pub y : result .y ≡ partWay (result .t) (getD values (2 * P + 1) nan) (getD values (2 * Q + 1) nan)
+  pub x : result .x ≡ partWay (result .t) (xAt values P) (xAt values Q)
+  pub y : result .y ≡ partWay (result .t) (yAt values P) (yAt values Q)
 
 -- ---- what holds of a corner that is told, of the place p of the ring
 pub record PlaceTold (values : List Float) (p : Place) (result : Told) : Type 0 where

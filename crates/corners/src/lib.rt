@@ -1,6 +1,6 @@
 // A corner of the ring asked for by its place: its rules, the laws that hold of them, and what is told of it.
 ghost use mathlib.Core.Path.{_≡_};
-ghost use Rattle.corners.specs.Corners.{toldBy, told, noCorner};
+ghost use Rattle.corners.specs.Corners.{plain as plainBy, toldBy, told, noCorner};
 
 // What is told of a corner: number 0, its kind (0 a vertex of U, 1 a corner of V, 2 a crossing), which vertex or corner it is, or a crossing's edge, line and t, and
 // where it stands. What a kind does not have is zero; beside a refusal's number all is.
@@ -16,31 +16,30 @@ pub struct Told {
     pub y: f64,
 }
 
+// A corner that is no crossing: it has no edge, no line and no t.
+fn plain(kind: u32, which: u32, x: f64, y: f64) -> Told
+    ensures { λ r. ⌜ r ≡ plainBy kind which x y ⌝ }
+{
+    let no_t = 0.0;
+    Told {
+        number: 0,
+        kind,
+        which,
+        edge: 0,
+        line: 0,
+        t: no_t,
+        x,
+        y,
+    }
+}
+
 // A corner's kind and position in numbers.
 fn told_by(kind: triangles::Kind, x: f64, y: f64) -> Told
     ensures { λ r. ⌜ r ≡ toldBy kind x y ⌝ }
 {
     match kind {
-        triangles::Kind::Vertex(i) => Told {
-            number: 0,
-            kind: 0,
-            which: i,
-            edge: 0,
-            line: 0,
-            t: 0.0,
-            x,
-            y,
-        },
-        triangles::Kind::Reference(k) => Told {
-            number: 0,
-            kind: 1,
-            which: k,
-            edge: 0,
-            line: 0,
-            t: 0.0,
-            x,
-            y,
-        },
+        triangles::Kind::Vertex(i) => plain(0, i, x, y),
+        triangles::Kind::Reference(k) => plain(1, k, x, y),
         triangles::Kind::Crossing(e, a, t) => Told {
             number: 0,
             kind: 2,

@@ -1,4 +1,5 @@
 pub mod Cases
+pub mod Placing
 pub mod Rows
 pub mod Unique
 pub mod Nought

@@ -1,5 +1,6 @@
 pub mod Pair
 pub mod Positions
+pub mod Placing
 pub mod Refusals
 pub mod Answers
 pub mod Rows
