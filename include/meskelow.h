@@ -117,9 +117,10 @@ typedef struct {
  * A crossing stands at P + t * (Q - P), in x and in y. t is the very value that its position was computed with, each operation
  * rounded once (so there is no fused multiply-add: -ffp-contract=off where a machine has one). P and Q are the ends of the edge,
  * and t is not always measured from where the edge starts: P is the end that is plus on the line, which is the one on V's side of
- * the line, or on the line itself; Q, the other, is minus there. examples/corners.c tells P by the rules' own formulas. Or else
- * compute the position from each of the ends, just as it is written here: P is the end from which it comes out as x and y. Where
- * it does from both, it makes no difference to the position which of them is taken.
+ * the line, or on the line itself; Q, the other, is minus there. examples/corners.c tells P by the rules' own formulas: the
+ * parameter at P is at least zero, at Q below zero. From P, and just as it is written here, the position comes out as x and y. That
+ * alone does not tell P, as from Q it may come out so too, with t = 0.5 for one; and whoever draws the crossing for another t
+ * has to know which end it is.
  *
  * Corners that coincide keep their own kinds. So where U and V share an edge, the ring may have two vertices of U and, at the very
  * same positions, two crossings with t 0.

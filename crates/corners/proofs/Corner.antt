@@ -1,23 +1,21 @@
 -- What is told of a place of the ring, by its kind: a vertex of U, a corner of V, or a crossing, whose t lies from 0 to 1. Assumes nothing.
-use mathlib.Core.Path.{_≡_, refl, sym, ap, subst, _∙_}
-use mathlib.Core.Bool.{Bool, true, false, _&&_, cond, true≢false}
-use mathlib.Core.List.{List, [], _∷_, _++_, List·Memᴰ, List·Memᴰ·head as here, List·Memᴰ·tail as there, map}
-use Prim.Native.Nat.{ℕ, zero, suc, _+_, _*_, _<_}
+use mathlib.Core.Path.{_≡_, refl, sym, subst, _∙_}
+use mathlib.Core.Bool.{Bool, true, false, cond, true≢false}
+use mathlib.Core.List.{List, _∷_, _++_, List·Memᴰ, List·Memᴰ·head as here, List·Memᴰ·tail as there, map}
+use Prim.Native.Nat.{ℕ, _+_, _<_}
 use native.Mathlib.Omega.{arith}
 use lib.Dec.{T, ltb, ltb→lt}
-use lib.Ieee.{Float, binary64, sub, div, le}
+use lib.Ieee.{Float, binary64, sub}
 use lib.Ieee.Fits.{and-l, and-r}
-use lib.ListN.{length, getD}
 use Rattle.floats.specs.Lists.{all, differ}
-use Rattle.floats.specs.Finite.{finite, nought}
+use Rattle.floats.specs.Finite.{finite}
 use Rattle.floats.specs.Way.{fine}
-use Rattle.floats.proofs.Lists.{so, os, all-at, all-append}
+use Rattle.floats.proofs.Lists.{so, os, all-append}
 use Rattle.floats.proofs.Fractions.{from-nought-to-one}
 use Rattle.lines.specs.Lines.{start, finish}
 use Rattle.lines.specs.Parameters.{parameter}
 use Rattle.lines.specs.Crossings.{crosses}
 use Rattle.ring.specs.Places.{Place, vertex, corner, crossing}
-use Rattle.triangles.specs.declared.Kind.the-variants.{Vertex, Reference, Crossing}
 use Rattle.triangles.specs.Pair.{vertexOf, carriedBy, signsBy, ringOf}
 use Rattle.triangles.specs.Positions.{Placed, crossingFrom, placedAt, positionOf, ringPositions}
 use Rattle.triangles.specs.Placing.{plusEnd, otherEnd, parameterAt}
@@ -27,8 +25,7 @@ use Rattle.triangles.specs.Decision.{enough}
 use Rattle.triangles.proofs.Demand.{inRange}
 use Rattle.triangles.proofs.Crossed.{crossed}
 use Rattle.triangles.proofs.Component.{denominator-fine, fine-carried, end-below}
-use Rattle.triangles.proofs.FiniteAnswer.{none-missing, ring-in-range}
-use Rattle.corners.specs.declared.Told.{Told}
+use Rattle.triangles.proofs.FiniteAnswer.{none-missing}
 use Rattle.corners.specs.Corners.{valued, told}
 use Rattle.corners.specs.Promise.{CrossingTold, PlaceTold}
 use Rattle.corners.proofs.Signs.{parameter-fits, plus-at-least, minus-under}
@@ -74,7 +71,7 @@ module _ (l : List Float) (passed : NoRow l enough) where
   unfolding crossingFrom
   crossing-told e a i j A I J d p m t =
       let n = from-nought-to-one (parameterAt l i a) (parameterAt l j a) (parameter-fits l i a A) (parameter-fits l j a A) (plus-at-least l passed i I a A p) (minus-under l passed j J a A m) (denominator e a i j t) in
-      record { differ = so d; plus = p; t = refl; from = n .0; to = n .1; x = refl; y = refl }
+      record { differ = so d; plus = p; minus = m; atLeast = plus-at-least l passed i I a A p; below = minus-under l passed j J a A m; t = refl; from = n .0; to = n .1; x = refl; y = refl }
 
   -- the crossing from either end of its edge
   abbrev fromEither : ℕ → ℕ → Bool → Placed

@@ -2,14 +2,14 @@
 use mathlib.Core.Logic.{_↔_}
 use mathlib.Core.Path.{_≡_, refl, sym, ap, subst, _∙_}
 use mathlib.Core.Bool.{Bool, true, false, cond}
-use mathlib.Core.List.{List, [], _∷_, _++_, map, List·Memᴰ, List·Memᴰ·head as here, List·Memᴰ·tail as there}
+use mathlib.Core.List.{List, [], _∷_, map, List·Memᴰ, List·Memᴰ·head as here, List·Memᴰ·tail as there}
 use Prim.Native.Nat.{ℕ, zero, suc, _+_, _*_, _<_, _≤_}
 use native.Mathlib.Omega.{arith}
 use lib.Dec.{T, eqb, ltb}
 use lib.Ieee.{Float, nan}
 use lib.ListN.{length, getD, take}
 use lib.Seq.{getD-take}
-use borrow.Author.Tests.{eqb-true, eqb-false, ltb-true, ltb-false}
+use borrow.Author.Tests.{eqb-true, eqb-false, ltb-true, ltb-false, eq-eqb, ne-eqb, lt-ltb, le-ltb}
 use Rattle.floats.proofs.Lists.{all-at}
 use Rattle.ring.specs.Places.{Place, vertex}
 use Rattle.triangles.specs.declared.Kind.{Kind}
@@ -91,14 +91,25 @@ data Asked (l : List Float) (place : ℕ) (r : Told) : Type 0 where
   standsThere : answerTo l .number ≡ 0 → place < answerTo l .n → r ≡ told (cornerAt l place) → Asked l place r
 
 module _ (l : List Float) (place : ℕ) where
-  asked : Asked l place (toldAt l place)
+  told-refused : (answerTo l .number ≡ 0 → ⊥) → toldAt l place ≡ noCorner (answerTo l .number)
   unfolding toldAt
+  told-refused z = rw (ne-eqb (answerTo l .number) 0 z) refl
+
+  told-beyond : answerTo l .number ≡ 0 → answerTo l .n ≤ place → toldAt l place ≡ noCorner 6
+  unfolding toldAt
+  told-beyond z b = rw (eq-eqb (answerTo l .number) 0 z, le-ltb place (answerTo l .n) b) refl
+
+  told-there : answerTo l .number ≡ 0 → place < answerTo l .n → toldAt l place ≡ told (cornerAt l place)
+  unfolding toldAt
+  told-there z b = rw (eq-eqb (answerTo l .number) 0 z, lt-ltb place (answerTo l .n) b) refl
+
+  asked : Asked l place (toldAt l place)
   asked = go (eqb (answerTo l .number) 0) refl (ltb place (answerTo l .n)) refl
     where
-      go : (b : Bool) → eqb (answerTo l .number) 0 ≡ b → (c : Bool) → ltb place (answerTo l .n) ≡ c → Asked l place (cond b (cond c (told (cornerAt l place)) (noCorner 6)) (noCorner (answerTo l .number)))
-      go true e true h = standsThere (eqb-true (answerTo l .number) 0 e) (ltb-true place (answerTo l .n) h) refl
-      go true e false h = noSuchPlace (eqb-true (answerTo l .number) 0 e) (ltb-false place (answerTo l .n) h) refl
-      go false e c h = refusedFirst (eqb-false (answerTo l .number) 0 e) refl
+      go : (b : Bool) → eqb (answerTo l .number) 0 ≡ b → (c : Bool) → ltb place (answerTo l .n) ≡ c → Asked l place (toldAt l place)
+      go true e true h = let z = eqb-true (answerTo l .number) 0 e in let b = ltb-true place (answerTo l .n) h in standsThere z b (told-there z b)
+      go true e false h = let z = eqb-true (answerTo l .number) 0 e in let b = ltb-false place (answerTo l .n) h in noSuchPlace z b (told-beyond z b)
+      go false e c h = let z = eqb-false (answerTo l .number) 0 e in refusedFirst z (told-refused z)
 
   -- ---- of a pair that is answered
   module _ (z : answerTo l .number ≡ 0) (b : place < answerTo l .n) where

@@ -102,24 +102,24 @@ module _ (l : List Float) (i : ℕ) where
 
 -- ---- of a pair that is not refused
 module _ (l : List Float) (passed : NoRow l enough) where
-  ways : T (all finite (parametersWay (parametersOf l 0) ++ (parametersWay (parametersOf l 1) ++ parametersWay (parametersOf l 2))))
+  abbrev wayOfVertex : ℕ → List Float
+  wayOfVertex i = parametersWay (parametersOf l i)
+
+  abbrev isFine : ℕ → Bool
+  isFine i = all finite (wayOfVertex i)
+
+  first-way : T (isFine 0 && all finite (wayOfVertex 1 ++ wayOfVertex 2))
   unfolding wayOf
-  ways = none-missing (wayOf wayToParameter l) (passed wayToParameter)
+  first-way = os (sym (all-append finite (wayOfVertex 0) (wayOfVertex 1 ++ wayOfVertex 2)) ∙ so (none-missing (wayOf wayToParameter l) (passed wayToParameter)))
 
-  way-of : (i : ℕ) → i < 3 → T (all finite (parametersWay (parametersOf l i)))
-  way-of i h = pick i h
-    where
-      a : T (all finite (parametersWay (parametersOf l 0)) && all finite (parametersWay (parametersOf l 1) ++ parametersWay (parametersOf l 2)))
-      a = os (sym (all-append finite (parametersWay (parametersOf l 0)) (parametersWay (parametersOf l 1) ++ parametersWay (parametersOf l 2))) ∙ so ways)
+  other-ways : T (isFine 1 && isFine 2)
+  other-ways = os (sym (all-append finite (wayOfVertex 1) (wayOfVertex 2)) ∙ so (and-r (isFine 0) (all finite (wayOfVertex 1 ++ wayOfVertex 2)) first-way))
 
-      b : T (all finite (parametersWay (parametersOf l 1)) && all finite (parametersWay (parametersOf l 2)))
-      b = os (sym (all-append finite (parametersWay (parametersOf l 1)) (parametersWay (parametersOf l 2))) ∙ so (and-r (all finite (parametersWay (parametersOf l 0))) (all finite (parametersWay (parametersOf l 1) ++ parametersWay (parametersOf l 2))) a))
-
-      pick : (i : ℕ) → i < 3 → T (all finite (parametersWay (parametersOf l i)))
-      pick zero h = and-l (all finite (parametersWay (parametersOf l 0))) (all finite (parametersWay (parametersOf l 1) ++ parametersWay (parametersOf l 2))) a
-      pick (suc zero) h = and-l (all finite (parametersWay (parametersOf l 1))) (all finite (parametersWay (parametersOf l 2))) b
-      pick (suc (suc zero)) h = and-r (all finite (parametersWay (parametersOf l 1))) (all finite (parametersWay (parametersOf l 2))) b
-      pick (suc (suc (suc i))) h = absurd (omega arith)
+  way-of : (i : ℕ) → i < 3 → T (isFine i)
+  way-of zero h = and-l (isFine 0) (all finite (wayOfVertex 1 ++ wayOfVertex 2)) first-way
+  way-of (suc zero) h = and-l (isFine 1) (isFine 2) other-ways
+  way-of (suc (suc zero)) h = and-r (isFine 1) (isFine 2) other-ways
+  way-of (suc (suc (suc i))) h = absurd (omega arith)
 
   module _ (i : ℕ) (hi : i < 3) where
     first-split : T (fine (x l i) && all finite (y l i .way ++ w l i .way))

@@ -1,19 +1,19 @@
 -- What is promised of a corner that is asked for, for all inputs and all places, and what follows from it for a reader. Statements, and definitions that only they use.
 use mathlib.Core.Path.{_≡_}
 use mathlib.Core.Logic.{_↔_}
-use mathlib.Core.Bool.{true, cond}
+use mathlib.Core.Bool.{true, false, cond}
 use mathlib.Core.List.{List, [], _∷_, map}
 use Prim.Native.Nat.{ℕ, _+_, _*_, _<_, _≤_}
 use lib.Dec.{eqb}
 use lib.ListN.{length, getD, take}
-use lib.Ieee.{Float, binary64, le, ofBits}
-use Rattle.floats.specs.Finite.{nought}
+use lib.Ieee.{Float, lt, le}
+use Rattle.floats.specs.Finite.{nought, one}
 use Rattle.floats.specs.OneAnswer.{NoSecond}
 use Rattle.lines.specs.Lines.{upFrom, start, finish}
 use Rattle.lines.specs.Crossings.{crosses}
 use Rattle.ring.specs.Places.{Place, vertex, corner, crossing}
 use Rattle.triangles.specs.Pair.{signsBy}
-use Rattle.triangles.specs.Placing.{plusEnd, otherEnd, fractionAt, partWay, xAt, yAt}
+use Rattle.triangles.specs.Placing.{plusEnd, otherEnd, parameterAt, fractionAt, partWay, xAt, yAt}
 use Rattle.triangles.specs.Answers.{wholeOf}
 use Rattle.triangles.specs.Rows.{RefusedBy, NoRow}
 use Rattle.triangles.specs.Decision.{enough, answerTo}
@@ -38,14 +38,15 @@ pub record Stands (values : List Float) (k : ℕ) (result : Told) : Type 0 where
   pub x : result .x ≡ xAt values k
   pub y : result .y ≡ yAt values k
 
-abbrev pub one : Float
-one = ofBits binary64 0x3ff0_0000_0000_0000
-
 -- ---- what holds of a crossing
 pub record CrossingTold (values : List Float) (result : Told) (P Q : ℕ) : Type 0 where
   -- the ends of its edge have different signs on its line: P is plus there, and Q is not
   pub differ : crosses (signsBy values (start (result .edge))) (signsBy values (finish (result .edge))) (result .line) ≡ true
   pub plus : signsBy values P (result .line) ≡ true
+  pub minus : signsBy values Q (result .line) ≡ false
+  -- so its parameter at P is at least zero, also where w counts as plus unseen, and at Q it is below zero: the values tell which end is P
+  pub atLeast : le nought (parameterAt values P (result .line)) ≡ true
+  pub below : lt (parameterAt values Q (result .line)) nought ≡ true
   -- t is a_P / (a_P − a_Q), from 0 to 1, both included, whatever rounding did
   pub t : result .t ≡ fractionAt values P Q (result .line)
   pub from : le nought (result .t) ≡ true

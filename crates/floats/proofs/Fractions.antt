@@ -16,13 +16,9 @@ use lib.Ieee.Order.{round-mono}
 use lib.Ieee.Scale.{round-same}
 use lib.Ieee.Positive.{num, den, positive, den-pos, own-value, positive-of-value, value-pos, values-of-le, above, above-of-le}
 use borrow.Author.Tests.{lt-ltb, ltb-true, not-false}
-use Rattle.floats.specs.Finite.{finite, nought}
+use Rattle.floats.specs.Finite.{finite, nought, one}
 use Rattle.floats.proofs.Lists.{so}
 use Rattle.floats.proofs.Told.{sub-operands}
-
--- 1.0
-abbrev pub one : Float
-one = ofBits binary64 0x3ff0_0000_0000_0000
 
 -- ---- a finite value and zero: its sign tells, and whether it has a digit
 one-digit : (m : ℕ) → ltb 0 (suc m) ≡ true

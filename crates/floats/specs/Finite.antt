@@ -11,3 +11,7 @@ finite (fin s m e) = true
 -- 0.0, from which the area's sum starts and with which signs compare
 abbrev pub nought : Float
 nought = ofBits binary64 0
+
+-- 1.0, the most that a fraction of an edge is
+abbrev pub one : Float
+one = ofBits binary64 0x3ff0_0000_0000_0000

@@ -9,8 +9,7 @@ use lib.Ieee.{Float}
 use lib.Ieee.Fits.{and-l, and-r}
 use Rattle.floats.specs.Lists.{all}
 use Rattle.floats.specs.Finite.{finite}
-use Rattle.floats.specs.Numbers.{Point}
-use Rattle.floats.specs.Way.{Way, given, _⊖_, fine}
+use Rattle.floats.specs.Way.{given, _⊖_, fine}
 use Rattle.floats.proofs.Lists.{so, os, all-append}
 use Rattle.floats.proofs.Told.{FinitePoint}
 use Rattle.lines.specs.Lines.{start, finish}

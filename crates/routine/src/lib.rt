@@ -42,7 +42,7 @@ fn write(room: &mut [f64], xy: [f64; 12], n: usize)
     }
 }
 
-// What is found of two triangles: the answer, and its ring's n corners, by place and by position. Where there is no ring, noughts.
+// What is found of two triangles: the answer, and its ring's n corners, by place and by position; what is beyond n has no meaning.
 struct Found {
     answer: triangles::Answer,
     places: [walk::PlaceCode; 6],
@@ -197,6 +197,7 @@ pub fn corner_at(values: &[f64], place: usize) -> corners::Told
     let q = s.q;
     let r = s.r;
     if front::beyond(s.d, s.e, p, q, r) {
+        // No row applies there, and there is no ring.
         return corners::no_corner(6);
     }
     let f = settled(values, s.d, s.e, p, q, r);

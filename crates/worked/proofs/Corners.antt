@@ -11,8 +11,8 @@ use Rattle.floats.specs.Lists.{all}
 use Rattle.floats.proofs.Lists.{all-at, sameList, same-list}
 use Rattle.floats.proofs.Same.{sameFloat, same-float}
 use Rattle.corners.specs.declared.Told.{Told}
-use Rattle.corners.specs.Corners.{noCorner, toldAt}
-use Rattle.worked.specs.Corners.{Case, Shown, places, inside, across, odd, cases}
+use Rattle.corners.specs.Corners.{toldAt}
+use Rattle.worked.specs.Corners.{Case, Shown, refusedBy, places, inside, across, odd, judged, cases}
 
 -- field by field, from the last
 module _ (a b : Told) where
@@ -67,7 +67,7 @@ module _ (a b : Told) where
 
 right : Case → Bool
 unfolding sameTold sameList toldAt
-right c = sameList sameTold (map (toldAt (c .values)) places) (map (λ k. getD (c .corners) k (noCorner (c .otherwise))) places)
+right c = sameList sameTold (map (toldAt (c .values)) places) (map (λ k. getD (c .corners) k (refusedBy (c .otherwise))) places)
 
 inside-right : T (all right inside)
 unfolding all right add sub mul div neg lt le eq ofInt ofBits
@@ -81,6 +81,10 @@ odd-right : T (all right odd)
 unfolding all right add sub mul div neg lt le eq ofInt ofBits
 odd-right = tt
 
+judged-right : T (all right judged)
+unfolding all right add sub mul div neg lt le eq ofInt ofBits
+judged-right = tt
+
 shown : (c : Case) → T (right c) → Shown c
 unfolding right
 shown c t = record { told = same-list sameTold same-told _ _ t }
@@ -88,4 +92,4 @@ shown c t = record { told = same-list sameTold same-told _ _ t }
 pub worked-corners : (c : Case) → List·Memᴰ c cases → Shown c
 worked-corners c m =
     ⊎-elim (λ r. shown c (all-at right inside inside-right r))
-    (λ r. ⊎-elim (λ q. shown c (all-at right across across-right q)) (λ q. shown c (all-at right odd odd-right q)) (List·Memᴰ·append-cases across r)) (List·Memᴰ·append-cases inside m)
+    (λ r. ⊎-elim (λ q. shown c (all-at right across across-right q)) (λ q. ⊎-elim (λ s. shown c (all-at right odd odd-right s)) (λ s. shown c (all-at right judged judged-right s)) (List·Memᴰ·append-cases odd q)) (List·Memᴰ·append-cases across r)) (List·Memᴰ·append-cases inside m)

@@ -1,4 +1,4 @@
--- 02, No. 4, worked by hand: the corners of 01's cases A to H, of case F with V turned over, which has zeros below zero, and of a pair in which a fraction rounds to 1; and the numbers of what is refused. Definitions and statements.
+-- 02, No. 4, worked by hand: the corners of 01's cases A to H, of case F with V turned over, which has a negative zero for its t, of a pair in which t rounds to 1, and of one that is apart by its boxes; and the numbers of what is refused. Definitions and statements.
 use mathlib.Core.Path.{_≡_}
 use mathlib.Core.List.{List, [], _∷_, _++_, map}
 use Prim.Native.Nat.{ℕ, _^_}
@@ -6,7 +6,7 @@ use lib.IntN.{ℤ, pos, negsuc}
 use lib.ListN.{getD}
 use lib.Ieee.{Float, nan, binary64, ofInt, ofBits}
 use Rattle.corners.specs.declared.Told.{Told}
-use Rattle.corners.specs.Corners.{noCorner, toldAt}
+use Rattle.corners.specs.Corners.{toldAt}
 
 -- values, and their ring's corners in its order; of a pair that is refused, or has no ring, the number that every place is refused with
 pub record Case : Type 0 where
@@ -18,16 +18,20 @@ pub record Case : Type 0 where
 abbrev pub places : List ℕ
 places = 0 ∷ 1 ∷ 2 ∷ 3 ∷ 4 ∷ 5 ∷ 6 ∷ 0x100 ∷ 0x1_0001 ∷ 0x1_0000_0002 ∷ 0xffff_ffff_ffff_ffff ∷ []
 
+abbrev zero : Float
+zero = ofBits binary64 0
+
+-- beside a refusal's number there are zeros, said here once more
+abbrev pub refusedBy : ℕ → Told
+refusedBy k = record { number = k; kind = 0; which = 0; edge = 0; line = 0; t = zero; x = zero; y = zero }
+
 -- each corner is told at its place, and beyond the last the number
 pub record Shown (c : Case) : Type 0 where
-  pub told : map (toldAt (c .values)) places ≡ map (λ k. getD (c .corners) k (noCorner (c .otherwise))) places
+  pub told : map (toldAt (c .values)) places ≡ map (λ k. getD (c .corners) k (refusedBy (c .otherwise))) places
 
 -- a triangle in whole numbers: `pos k` is k, `negsuc k` is −(k + 1)
 abbrev triangle : ℤ → ℤ → ℤ → ℤ → ℤ → ℤ → List Float
 triangle a b c d e f = map (ofInt binary64) (a ∷ b ∷ c ∷ d ∷ e ∷ f ∷ [])
-
-abbrev zero : Float
-zero = ofBits binary64 0
 
 -- vertex i of U, corner k of V, and the crossing of edge e with line a, its t by its bits, each at whole numbers
 abbrev vertexOfU : ℕ → ℕ → ℕ → Told
@@ -39,7 +43,7 @@ cornerOfV k x y = record { number = 0; kind = 1; which = k; edge = 0; line = 0; 
 abbrev crossing : ℕ → ℕ → ℕ → ℕ → ℕ → Told
 crossing e a bits x y = record { number = 0; kind = 2; which = 0; edge = e; line = a; t = ofBits binary64 bits; x = ofInt binary64 (pos x); y = ofInt binary64 (pos y) }
 
--- 1/4, 1/2, 5/8, 3/4, 1, 0, and the zero below zero
+-- 1/4, 1/2, 5/8, 3/4, 1, and negative zero
 abbrev quarter : ℕ
 quarter = 0x3fd0_0000_0000_0000
 
@@ -120,5 +124,18 @@ odd =
     ∷ refusedWith 1 (smallU ++ (zero ∷ standardV))
     ∷ []
 
+-- a pair whose boxes share no point and which has a ring by rounding (the list calls it apart); one of whose crossings' way Q − P overflows; and one whose area overflows, all corners being finite. The last two are 4 at every place
+abbrev pub judged : List Case
+judged =
+    ringOf (triangle (pos 327628) (pos 2) (negsuc 335622) (pos 719289) (negsuc 969091) (pos 2) ++ triangle (negsuc 778993) (negsuc 314944) (negsuc 940498) (negsuc 380240) (pos 0) (pos 0))
+    (record { number = 0; kind = 2; which = 0; edge = 2; line = 2; t = ofBits binary64 0x3fd0_2b80_b91c_9403; x = ofBits binary64 0x4013_c994_fbaa_0000; y = ofInt binary64 (pos 2) }
+    ∷ record { number = 0; kind = 2; which = 0; edge = 2; line = 0; t = ofBits binary64 0x3fe7_ea3f_a371_b5ff; x = ofBits binary64 0x4013_c994_fbac_0000; y = ofInt binary64 (pos 2) }
+    ∷ cornerOfV 2 0 0 ∷ [])
+    ∷ refusedWith 4 (map (ofBits binary64) (0x0000000000000000 ∷ 0x8180000000000000 ∷ 0x7fe0000000000000 ∷ 0x0170000000000000 ∷ 0xffe0000000000000 ∷ 0x0170000000000000
+    ∷ 0x0000000000000000 ∷ 0x0000000000000000 ∷ 0x7fd0000000000000 ∷ 0x0000000000000000 ∷ 0x0000000000000000 ∷ 0x0180000000000000 ∷ []))
+    ∷ refusedWith 4 (map (ofBits binary64) (0x0000000000000000 ∷ 0x0198000000000000 ∷ 0x7fe4000000000000 ∷ 0x0000000000000000 ∷ 0xffe4000000000000 ∷ 0x0180000000000000
+    ∷ 0x0000000000000000 ∷ 0x819c000000000000 ∷ 0x7fec000000000000 ∷ 0x0170000000000000 ∷ 0xffec000000000000 ∷ 0x0190000000000000 ∷ []))
+    ∷ []
+
 abbrev pub cases : List Case
-cases = inside ++ (across ++ odd)
+cases = inside ++ (across ++ (odd ++ judged))
