@@ -1,4 +1,4 @@
--- 02, No. 4, said once more apart from the definition, so that it can be held against it: what stands at a place is of that place's kind, and a crossing stands by the very t that it carries. Statements, and definitions that only they use.
+-- 02, No. 4, said once more apart from the definition, so that it can be held against it: what stands at a place is of that place's kind, and a crossing stands by the very t that it carries. Statements, and definitions that these and the statements above them use.
 use mathlib.Core.Path.{_≡_}
 use mathlib.Core.Bool.{cond}
 use mathlib.Core.List.{List}
