@@ -17,6 +17,7 @@ pub mod library;
 pub mod lists;
 pub mod pages;
 pub mod random;
+pub mod table;
 pub mod tally;
 pub mod triangles;
 pub mod workloads;

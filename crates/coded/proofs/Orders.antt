@@ -6,9 +6,11 @@ use mathlib.Core.List.{List, [], _∷_, map, reverse, List·Memᴰ, List·Memᴰ
 use Prim.Native.Nat.{ℕ, zero, suc}
 use lib.Dec.{T, eqb, eqb→eq}
 use lib.Ieee.Fits.{and-l, and-r}
-use Rattle.floats.specs.Lists.{all}
-use Rattle.floats.proofs.Lists.{all-at, same-bool, sameList, same-list}
-use Rattle.lines.specs.Lines.{three, cornerOn, lowerLine, upperLine, sign}
+use native.Mathlib.Omega.{arith}
+use Rattle.floats.specs.Lists.{all, differ}
+use Rattle.floats.proofs.Lists.{so, all-at, same-bool, sameList, same-list}
+use Rattle.lines.specs.Lines.{three, cornerOn, lowerLine, upperLine, sign, signsAt}
+use Rattle.lines.specs.Crossings.{crosses, somePlus}
 use Rattle.lines.specs.declared.Params.{Params}
 use Rattle.lines.specs.Parameters.{signs, signsOf}
 use Rattle.edges.specs.declared.Order.{Order}
@@ -16,6 +18,8 @@ use Rattle.edges.specs.declared.Test.{Test}
 use Rattle.order.specs.Order.{Ordering, orderAlong}
 use Rattle.edges.specs.Code.{tested, ordered, orderBy, beforeIn, orderingFrom, testFine, orderOf}
 use Rattle.order.proofs.Every.{seven, eight, in-seven}
+use Rattle.table.specs.Table.{crossedFrom, entryFor, crossedIn}
+use Rattle.table.proofs.Entries.{reads-crossed}
 use Rattle.order.proofs.Edge.{sameOrder, same-order}
 
 -- ---- tests by corner: of the three corners, and of any other number
@@ -50,14 +54,13 @@ tested-by-corner p q s (suc (suc (suc k))) = refl
 
 -- ---- the computed test
 unfoldable sameOrdered : Order → Order → Bool
-unfolding sameList
-sameOrdered a b = sameList Bool·beq (a .before) (b .before) && Bool·beq (a .fine) (b .fine)
+sameOrdered a b = eqb (a .before) (b .before) && Bool·beq (a .fine) (b .fine)
 
 same-ordered : (a b : Order) → T (sameOrdered a b) → a ≡ b
 unfolding sameOrdered
 same-ordered a b t =
-    ap₂ ordered (same-list Bool·beq same-bool (a .before) (b .before) (and-l (sameList Bool·beq (a .before) (b .before)) (Bool·beq (a .fine) (b .fine)) t))
-    (same-bool (a .fine) (b .fine) (and-r (sameList Bool·beq (a .before) (b .before)) (Bool·beq (a .fine) (b .fine)) t))
+    ap₂ ordered (eqb→eq (a .before) (b .before) (and-l (eqb (a .before) (b .before)) (Bool·beq (a .fine) (b .fine)) t))
+    (same-bool (a .fine) (b .fine) (and-r (eqb (a .before) (b .before)) (Bool·beq (a .fine) (b .fine)) t))
 
 -- the lines of a pair test are those of the corner on them
 abbrev cornered : ℕ × ℕ → Bool
@@ -70,7 +73,7 @@ unfoldable agrees : (ℕ → Test) → List Bool → List Bool → Bool
 unfolding all sameOrdered orderBy beforeIn orderAlong
 agrees tests s t =
     let d = decides tests s t in
-    all cornered (d .tests) && sameOrdered (orderBy tests s t) (ordered (beforeIn (d .order)) (all (λ t. tests (cornerOn (t .0) (t .1)) .fine) (d .tests)))
+    all cornered (d .tests) && sameOrdered (orderBy tests s (crossedFrom s t)) (ordered (beforeIn (d .order)) (all (λ t. tests (cornerOn (t .0) (t .1)) .fine) (d .tests)))
 
 unfoldable agreesWith : Test → Test → Test → Test → Bool
 unfolding all seven agrees byCorner
@@ -105,7 +108,7 @@ tests-fine p q (t ∷ ts) h =
     let b = eqb→eq (upperLine (cornerOn (t .0) (t .1))) (t .1) (and-r (eqb (lowerLine (cornerOn (t .0) (t .1))) (t .0)) (eqb (upperLine (cornerOn (t .0) (t .1))) (t .1)) k) in
     ap₂ _&&_ (ap₂ (λ x y. testFine p q (x, y)) a b) (tests-fine p q ts (and-r (cornered t) (all cornered ts) h))
 
-pub is-order : (p q : Params) → orderBy (tested p q (signsOf p)) (signsOf p) (signsOf q) ≡ orderOf p q
+pub is-order : (p q : Params) → orderBy (tested p q (signsOf p)) (signsOf p) (crossedFrom (signsOf p) (signsOf q)) ≡ orderOf p q
 unfolding agrees orderOf orderingFrom
 is-order p q =
     let tests = tested p q (signsOf p) in
@@ -113,10 +116,43 @@ is-order p q =
     let t : T (agrees tests (signsOf p) (signsOf q)) =
     agrees-at tests (tests 0) (tests 1) (tests 2) (tests 3) (fun-ext (tested-by-corner p q (signsOf p))) (signsOf p) (signsOf q) (signs-in-seven p) (signs-in-seven q) in
     let fine = all (λ t. tests (cornerOn (t .0) (t .1)) .fine) (d .tests) in
-    same-ordered (orderBy tests (signsOf p) (signsOf q)) (ordered (beforeIn (d .order)) fine)
-    (and-r (all cornered (d .tests)) (sameOrdered (orderBy tests (signsOf p) (signsOf q)) (ordered (beforeIn (d .order)) fine)) t)
+    same-ordered (orderBy tests (signsOf p) (crossedFrom (signsOf p) (signsOf q))) (ordered (beforeIn (d .order)) fine)
+    (and-r (all cornered (d .tests)) (sameOrdered (orderBy tests (signsOf p) (crossedFrom (signsOf p) (signsOf q))) (ordered (beforeIn (d .order)) fine)) t)
     ∙ ap (ordered (beforeIn (d .order)))
-    (tests-fine p q (d .tests) (and-l (all cornered (d .tests)) (sameOrdered (orderBy tests (signsOf p) (signsOf q)) (ordered (beforeIn (d .order)) fine)) t))
+    (tests-fine p q (d .tests) (and-l (all cornered (d .tests)) (sameOrdered (orderBy tests (signsOf p) (crossedFrom (signsOf p) (signsOf q))) (ordered (beforeIn (d .order)) fine)) t))
+
+-- ---- the lines that an edge crosses are those that the table has for it
+differ-comm : (a b : Bool) → differ a b ≡ differ b a
+differ-comm true true = refl
+differ-comm true false = refl
+differ-comm false true = refl
+differ-comm false false = refl
+
+crossed-back : (s t : List Bool) → crossedFrom s t ≡ crossedFrom t s
+crossed-back s t =
+    let c : (a : ℕ) → crosses (sign s) (sign t) a ≡ crosses (sign t) (sign s) a = λ a. differ-comm (sign s a) (sign t a) in
+    rw (c 0, c 1, c 2) refl
+
+module _ (p q r : List Bool) (mp : List·Memᴰ p seven) (mq : List·Memᴰ q seven) (mr : List·Memᴰ r seven) where
+  abbrev ss : List (List Bool)
+  ss = p ∷ q ∷ r ∷ []
+
+  plus-somewhere : (s : List Bool) → List·Memᴰ s seven → somePlus 3 (sign s) ≡ true
+  plus-somewhere s m = so (all-at (λ s. somePlus 3 (sign s)) seven (unfold all somePlus seven in tt) m)
+
+  none-minus : all (λ i. somePlus 3 (signsAt ss i)) three ≡ true
+  unfolding all
+  none-minus = rw (plus-somewhere p mp, plus-somewhere q mq, plus-somewhere r mr) refl
+
+  pub crossed-01 : crossedIn (entryFor ss) 0 ≡ crossedFrom p q
+  crossed-01 = reads-crossed ss none-minus 0 (omega arith)
+
+  pub crossed-12 : crossedIn (entryFor ss) 1 ≡ crossedFrom q r
+  crossed-12 = reads-crossed ss none-minus 1 (omega arith)
+
+  -- seen from the lower vertex: edge 2 runs from U2 to U0
+  pub crossed-02 : crossedIn (entryFor ss) 2 ≡ crossedFrom p r
+  crossed-02 = reads-crossed ss none-minus 2 (omega arith) ∙ crossed-back r p
 
 -- ---- an edge that is walked from its higher vertex has the same pair tests, and the order the other way round
 sameTests : List (ℕ × ℕ) → List (ℕ × ℕ) → Bool

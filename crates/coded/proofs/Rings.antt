@@ -11,10 +11,11 @@ use Rattle.floats.proofs.Lists.{same-bool, sameList, same-list}
 use Rattle.lines.specs.Lines.{signsAt}
 use Rattle.order.specs.Order.{ordersOf, orderAt}
 use Rattle.order.proofs.Every.{seven, eight}
+use Rattle.table.specs.Table.{entryFor}
 use Rattle.walk.specs.declared.Ring.{Ring}
 use Rattle.ring.specs.Flags.{verticesIn, cornersIn, neighbours}
 use Rattle.ring.specs.Ring.{ring}
-use Rattle.walk.specs.Code.{codeOf, codesOf, befores, flagsAndRing, edgeOf, edgeAt, insideOf, neighboursOf, walkOf, begun, alongEdge, closing, entering, leaving, cornered, pushed, lineAmong, isOnLine}
+use Rattle.walk.specs.Code.{codeOf, codesOf, befores, flagsAndRing, lowerSigns, edgesTell, insideOf, neighboursOf, walkOf, begun, alongEdge, closing, entering, leaving, cornered, pushed, lineOfDigit, isOnLine}
 use Rattle.ring.proofs.Walks.{allWalks, walksFrom, inAllOrders, every-walk}
 
 sameBools : List Bool → List Bool → Bool
@@ -34,7 +35,7 @@ pub record IsRing (ss : List (List Bool)) (os : List (List ℕ)) (r : Ring) : Ty
 
 module _ (ss : List (List Bool)) (os : List (List ℕ)) where
   abbrev r : Ring
-  r = flagsAndRing ss (befores os)
+  r = flagsAndRing ss (entryFor ss) (befores os)
 
   abbrev B1 : Bool
   B1 = sameList eqb (codesOf r) (map codeOf (ring (signsAt ss) (orderAt os)))
@@ -52,7 +53,7 @@ module _ (ss : List (List Bool)) (os : List (List ℕ)) where
   B5 = sameBools (r .neighbour) (neighbours (signsAt ss) (orderAt os))
 
   unfoldable agrees : Bool
-  unfolding sameBools sameList flagsAndRing edgeAt edgeOf insideOf neighboursOf walkOf begun alongEdge closing entering leaving cornered pushed lineAmong isOnLine befores ring verticesIn cornersIn neighbours
+  unfolding sameBools sameList flagsAndRing entryFor lowerSigns edgesTell insideOf neighboursOf walkOf begun alongEdge closing entering leaving cornered pushed lineOfDigit isOnLine befores ring verticesIn cornersIn neighbours
   agrees = B1 && (B2 && (B3 && (B4 && B5)))
 
   from-test : T agrees → IsRing ss os r
@@ -74,5 +75,5 @@ unfolding all seven allWalks walksFrom inAllOrders agrees
 all-agree = tt
 
 pub is-ring : (p q r : List Bool) → List·Memᴰ p seven → List·Memᴰ q seven → List·Memᴰ r seven → (ts : ℕ → List Bool) → ((e : ℕ) → List·Memᴰ (ts e) eight) →
-    (let ss = p ∷ q ∷ r ∷ [] in IsRing ss (ordersOf ss ts) (flagsAndRing ss (befores (ordersOf ss ts))))
+    (let ss = p ∷ q ∷ r ∷ [] in IsRing ss (ordersOf ss ts) (flagsAndRing ss (entryFor ss) (befores (ordersOf ss ts))))
 is-ring p q r mp mq mr ts mt = from-test (p ∷ q ∷ r ∷ []) (ordersOf (p ∷ q ∷ r ∷ []) ts) (every-walk agrees all-agree p q r mp mq mr ts mt)

@@ -1,5 +1,5 @@
 -- The order along an edge as the code finds it, from its lower vertex: of each corner of V, whether the corner's lower line is met before its
--- upper one. That this is the order of the rules is proved (`is-order`). Definitions only.
+-- upper one, the three as a digit of the table's kind. That this is the order of the rules is proved (`is-order`). Definitions only.
 use mathlib.Core.Bool.{Bool, true, false, not, _&&_, _||_, cond, Bool·beq}
 use mathlib.Core.List.{List, [], _∷_, map}
 use Prim.Native.Nat.{ℕ}
@@ -11,6 +11,7 @@ use Rattle.floats.specs.Way.{f64}
 use Rattle.lines.specs.Lines.{three, cornerOn, lowerLine, upperLine, sign}
 use Rattle.lines.specs.declared.Params.{Params}
 use Rattle.lines.specs.Parameters.{carried, signsOf}
+use Rattle.table.specs.Table.{digitOf}
 use Rattle.edges.specs.declared.Order.{Order}
 use Rattle.edges.specs.declared.Test.{Test}
 use Rattle.order.specs.PairTest.{pairD, metFirst}
@@ -30,11 +31,11 @@ module _ (tests : ℕ → Test) where
   seenFirst far a b = let t = tests (cornerOn a b) in record { first = differ far (differ (ltb b a) (t .first)); fine = t .fine }
 
 -- lines met in the order a, b, c
-unfoldable pub inOrder : Bool → ℕ → ℕ → ℕ → List Bool
+unfoldable pub inOrder : Bool → ℕ → ℕ → ℕ → ℕ
 inOrder far a b c =
-    set (set (set (false ∷ false ∷ false ∷ []) (cornerOn a b) (differ far (ltb a b))) (cornerOn b c) (differ far (ltb b c))) (cornerOn a c) (differ far (ltb a c))
+    digitOf (set (set (set (false ∷ false ∷ false ∷ []) (cornerOn a b) (differ far (ltb a b))) (cornerOn b c) (differ far (ltb b c))) (cornerOn a c) (differ far (ltb a c)))
 
-abbrev pub ordered : List Bool → Bool → Order
+abbrev pub ordered : ℕ → Bool → Order
 ordered before fine = record { before = before; fine = fine }
 
 module _ (tests : ℕ → Test) where
@@ -59,20 +60,17 @@ module _ (tests : ℕ → Test) where
   unfoldable pub twoBy : List Bool → ℕ → ℕ → Test
   twoBy s k c = cond (sign s c) (tests k) (record { first = not (sign s (lowerLine k)); fine = true })
 
-  -- from the signs s to the signs t
-  unfoldable pub orderBy : List Bool → List Bool → Order
+  -- from the signs s on, by the lines that the edge crosses, c being their digit: 6 is lines 0 and 1, 3 lines 1 and 2, 5 lines 0 and 2, 7 all three
+  unfoldable pub orderBy : List Bool → ℕ → Order
   unfolding threeBy twoBy
-  orderBy s t =
-      let x = differ (sign s 0) (sign t 0) in
-      let y = differ (sign s 1) (sign t 1) in
-      let w = differ (sign s 2) (sign t 2) in
+  orderBy s c =
       let xy = twoBy s 0 2 in
       let yw = twoBy s 1 0 in
       let xw = twoBy s 2 1 in
-      cond (x && y) (cond w (threeBy s) (ordered (xy .first ∷ false ∷ false ∷ []) (xy .fine)))
-      (cond (y && w) (ordered (false ∷ yw .first ∷ false ∷ []) (yw .fine))
-      (cond (x && w) (ordered (false ∷ false ∷ xw .first ∷ []) (xw .fine))
-      (ordered (false ∷ false ∷ false ∷ []) true)))
+      cond (eqb c 6) (ordered (digitOf (xy .first ∷ false ∷ false ∷ [])) (xy .fine))
+      (cond (eqb c 3) (ordered (digitOf (false ∷ yw .first ∷ false ∷ [])) (yw .fine))
+      (cond (eqb c 5) (ordered (digitOf (false ∷ false ∷ xw .first ∷ [])) (xw .fine))
+      (cond (eqb c 7) (threeBy s) (ordered 0 true))))
 
 -- ---- the same, read off an order of the rules
 -- a stands before b in the order, and both stand there
@@ -81,9 +79,9 @@ unfolding any
 standsBefore a b [] = false
 standsBefore a b (x ∷ o) = cond (eqb a x) (any (eqb b) o) (standsBefore a b o)
 
-unfoldable pub beforeIn : List ℕ → List Bool
+unfoldable pub beforeIn : List ℕ → ℕ
 unfolding standsBefore
-beforeIn o = map (λ k. standsBefore (lowerLine k) (upperLine k) o) three
+beforeIn o = digitOf (map (λ k. standsBefore (lowerLine k) (upperLine k) o) three)
 
 -- what the rules decide of an edge from its lower vertex, with the parameters p, to its higher one, with q
 unfoldable pub orderingFrom : Params → Params → Ordering

@@ -1,4 +1,4 @@
-// The order in which an edge of U meets V's lines. Edges are taken from their lower vertex: p and s are its parameters and signs, q and t those of
+// The order in which an edge of U meets V's lines. Edges are taken from their lower vertex: p and s are its parameters and signs, q the parameters of
 // the higher vertex.
 ghost use mathlib.Core.Path.{_≡_};
 ghost use mathlib.Core.Bool.{cond};
@@ -8,10 +8,10 @@ ghost use Rattle.floats.specs.Finite.{nought};
 ghost use Rattle.lines.specs.Lines.{lowerEnd, higherEnd};
 ghost use Rattle.edges.specs.Code.{tested, seenFirst, inOrder, aroundBy, threeBy, twoBy, orderBy};
 
-// By V's corners: whether the corner's lower line is met before its upper one, false where the edge does not cross both. And whether all
-// pair tests that were computed are finite.
+// By V's corners, as a digit of the table's kind: whether the corner's lower line is met before its upper one, false where the edge does not cross both. And
+// whether all pair tests that were computed are finite.
 pub struct Order {
-    pub before: [bool; 3],
+    pub before: u16,
     pub fine: bool,
 }
 
@@ -65,7 +65,7 @@ fn seen_first(
 }
 
 // Three lines met in the order a, b, c, seen from the higher vertex if far.
-fn in_order(far: bool, a: usize, b: usize, c: usize) -> [bool; 3]
+fn in_order(far: bool, a: usize, b: usize, c: usize) -> u16
     ensures { λ r. ⌜ r ≡ inOrder far a b c ⌝ }
 {
     let mut before = [false; 3];
@@ -75,7 +75,7 @@ fn in_order(far: bool, a: usize, b: usize, c: usize) -> [bool; 3]
     before[ab] = far != (a < b);
     before[bc] = far != (b < c);
     before[ac] = far != (a < c);
-    before
+    table::digit_of(before)
 }
 
 // Three lines crossed, walked from the end with one minus: c is minus there, a < b are the others.
@@ -147,40 +147,40 @@ fn two_lines(p: lines::Params, q: lines::Params, s: [bool; 3], k: usize, c: usiz
     }
 }
 
-// The order along an edge, seen from its lower vertex.
-pub fn order_of(p: lines::Params, q: lines::Params, s: [bool; 3], t: [bool; 3]) -> Order
-    ensures { λ r. ⌜ r ≡ orderBy (tested p q s) s t ⌝ }
+// The order along an edge, seen from its lower vertex, by the lines that it crosses, as the table has them.
+pub fn order_of(p: lines::Params, q: lines::Params, s: [bool; 3], crossed: u16) -> Order
+    ensures { λ r. ⌜ r ≡ orderBy (tested p q s) s crossed ⌝ }
 {
-    let x = s[0] != t[0];
-    let y = s[1] != t[1];
-    let w = s[2] != t[2];
-    if x & y {
-        if w {
-            return three_lines(p, q, s);
+    match crossed {
+        // lines 0 and 1
+        0o6 => {
+            let r = two_lines(p, q, s, 0, 2);
+            Order {
+                before: table::digit_of([r.first, false, false]),
+                fine: r.fine,
+            }
         }
-        let r = two_lines(p, q, s, 0, 2);
-        return Order {
-            before: [r.first, false, false],
-            fine: r.fine,
-        };
-    }
-    if y & w {
-        let r = two_lines(p, q, s, 1, 0);
-        return Order {
-            before: [false, r.first, false],
-            fine: r.fine,
-        };
-    }
-    if x & w {
-        let r = two_lines(p, q, s, 2, 1);
-        return Order {
-            before: [false, false, r.first],
-            fine: r.fine,
-        };
-    }
-    Order {
-        before: [false; 3],
-        fine: true,
+        // lines 1 and 2
+        0o3 => {
+            let r = two_lines(p, q, s, 1, 0);
+            Order {
+                before: table::digit_of([false, r.first, false]),
+                fine: r.fine,
+            }
+        }
+        // lines 0 and 2
+        0o5 => {
+            let r = two_lines(p, q, s, 2, 1);
+            Order {
+                before: table::digit_of([false, false, r.first]),
+                fine: r.fine,
+            }
+        }
+        0o7 => three_lines(p, q, s),
+        _ => Order {
+            before: 0,
+            fine: true,
+        },
     }
 }
 

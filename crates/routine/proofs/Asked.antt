@@ -17,11 +17,11 @@ use Rattle.triangles.specs.Decision.{enough}
 use Rattle.corners.specs.declared.Told.{Told}
 use Rattle.corners.specs.Corners.{told, noCorner, cornerAt, toldAt}
 use Rattle.corners.specs.Promise.{CornerPromise}
-use Rattle.lines.specs.Parameters.{signsOf}
+use Rattle.lines.specs.declared.Params.{Params}
 use Rattle.front.specs.Front.{beyondBy}
 use Rattle.routine.specs.declared.Start.{Start}
 use Rattle.routine.specs.declared.Found.{Found}
-use Rattle.routine.specs.Code.{Starts, Finds, spotAt, settledBy}
+use Rattle.routine.specs.Code.{Starts, Finds, spotAt, signsFrom, settledBy}
 use Rattle.routine.proofs.Edges.{signs-are}
 use Rattle.routine.proofs.Crossings.{params}
 use Rattle.routine.proofs.Entry.{lengths-kept, beyond-kept}
@@ -65,18 +65,20 @@ module _ (l : List Float) (place : ℕ) where
       pub found-beyond : {r : Told} → f .answer .number ≡ 0 → f .answer .n ≤ place → r ≡ noCorner 6 → CornerPromise l place r
       found-beyond z b e = record { result-is = e ∙ sym (corner-beyond l place kept z b) }
 
-      module _ (t u v : List Bool) (ht : t ≡ signsOf (s .p)) (hu : u ≡ signsOf (s .q)) (hv : v ≡ signsOf (s .r)) where
-        signs-named : t ∷ u ∷ v ∷ [] ≡ vertexSigns l
-        signs-named = rw (ht, hu, hv, named .2, named .3, named .4) (sym (signs-are l))
+      abbrev ps : List Params
+      ps = s .p ∷ s .q ∷ s .r ∷ []
 
-        params-named : s .p ∷ s .q ∷ s .r ∷ [] ≡ params l
-        params-named = rw (named .2, named .3, named .4) refl
+      signs-named : signsFrom ps ≡ vertexSigns l
+      signs-named = rw (named .2, named .3, named .4) (sym (signs-are l))
 
-        ring-corner : f .answer .number ≡ 0 → place < f .answer .n → spotAt l (s .p ∷ s .q ∷ s .r ∷ []) (t ∷ u ∷ v ∷ []) (f .places) place .corner ≡ cornerAt l place
-        ring-corner z b =
-            ap₂ (λ ps ss. spotAt l ps ss (f .places) place .corner) params-named signs-named
-            ∙ (ap (λ ps. spotAt l (params l) (vertexSigns l) ps place .corner) (finds .places-are)
-            ∙ keeps .place (ap (λ a. a .number) (sym (finds .answer-is)) ∙ z) place (subst (λ a. place < a .n) (finds .answer-is) b))
+      params-named : ps ≡ params l
+      params-named = rw (named .2, named .3, named .4) refl
 
-        pub found-told : {r : Told} → f .answer .number ≡ 0 → place < f .answer .n → {c : Corner} → c ≡ spotAt l (s .p ∷ s .q ∷ s .r ∷ []) (t ∷ u ∷ v ∷ []) (f .places) place .corner → r ≡ told c → CornerPromise l place r
-        found-told z b hc e = record { result-is = e ∙ (ap told (hc ∙ ring-corner z b) ∙ sym (corner-told l place kept z b)) }
+      ring-corner : f .answer .number ≡ 0 → place < f .answer .n → spotAt l ps (signsFrom ps) (f .places) place .corner ≡ cornerAt l place
+      ring-corner z b =
+          ap₂ (λ ps ss. spotAt l ps ss (f .places) place .corner) params-named signs-named
+          ∙ (ap (λ ps. spotAt l (params l) (vertexSigns l) ps place .corner) (finds .places-are)
+          ∙ keeps .place (ap (λ a. a .number) (sym (finds .answer-is)) ∙ z) place (subst (λ a. place < a .n) (finds .answer-is) b))
+
+      pub found-told : {r : Told} → f .answer .number ≡ 0 → place < f .answer .n → {c : Corner} → c ≡ spotAt l ps (signsFrom ps) (f .places) place .corner → r ≡ told c → CornerPromise l place r
+      found-told z b hc e = record { result-is = e ∙ (ap told (hc ∙ ring-corner z b) ∙ sym (corner-told l place kept z b)) }

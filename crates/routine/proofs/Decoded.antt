@@ -2,18 +2,19 @@
 use mathlib.Core.Path.{_≡_, refl, sym, ap, _∙_}
 use mathlib.Core.Bool.{Bool, true, false, cond}
 use mathlib.Core.List.{List}
-use Prim.Native.Nat.{ℕ, _+_, _-_, _/_, _<_, _≤_}
+use Prim.Native.Nat.{ℕ, zero, suc, _+_, _-_, _/_, _<_, _≤_}
 use native.Mathlib.Omega.{arith}
 use lib.Dec.{ltb}
 use lib.Ieee.{Float}
 use borrow.Author.Tests.{lt-ltb, le-ltb, ltb-true, ltb-false}
-use Rattle.lines.specs.Lines.{signsAt, start, finish}
+use Rattle.lines.specs.Lines.{sign, signsAt, start, finish}
 use Rattle.lines.specs.declared.Params.{Params}
+use Rattle.lines.specs.Parameters.{signsOf}
 use Rattle.ring.specs.Places.{vertex, corner, crossing}
 use Rattle.walk.specs.Code.{placeOfCode}
 use Rattle.triangles.specs.declared.Kind.the-variants.{Vertex, Reference}
 use Rattle.routine.specs.declared.spots.Spot.{Spot}
-use Rattle.routine.specs.Code.{positionAt, standing, kindIn, paramsAt, crossOf, spotOf, edgeIn, lineIn, spotFrom}
+use Rattle.routine.specs.Code.{positionAt, standing, kindIn, paramsAt, crossOf, spotOf, edgeIn, lineIn, spotFrom, signsFrom}
 
 module _ (l : List Float) (ps : List Params) (ss : List (List Bool)) (k : ℕ) where
   decoded-position : k < 6 → standing (kindIn k) (positionAt l k) ≡ spotOf l ps ss (placeOfCode k)
@@ -45,3 +46,15 @@ module _ (l : List Float) (ps : List Params) (ss : List (List Bool)) (k : ℕ) w
       go : (b : Bool) → ltb k 6 ≡ b → cond b (standing (kindIn k) (positionAt l k)) crossed ≡ spotOf l ps ss (placeOfCode k)
       go true t = decoded-position (ltb-true k 6 t)
       go false t = decoded-crossing (ltb-false k 6 t)
+
+-- the same, the sign being that of the start's own parameters
+sign-from : (ps : List Params) (i a : ℕ) → i < 3 → sign (signsOf (paramsAt ps i)) a ≡ signsAt (signsFrom ps) i a
+sign-from ps zero a h = refl
+sign-from ps (suc zero) a h = refl
+sign-from ps (suc (suc zero)) a h = refl
+sign-from ps (suc (suc (suc i))) a h = absurd (omega (arith, h))
+
+pub looked-up-alone : (l : List Float) (ps : List Params) (k e a i j : ℕ) (s : List Bool) {r : Spot} → e ≡ edgeIn k → a ≡ lineIn k → (i ≡ start e) × (i < 3) → j ≡ finish e → s ≡ signsOf (paramsAt ps i) →
+    r ≡ spotFrom l k e a i j (paramsAt ps i) (paramsAt ps j) (sign s a) → r ≡ spotOf l ps (signsFrom ps) (placeOfCode k)
+looked-up-alone l ps k e a i j s he ha hi hj hs hr =
+    looked-up l ps (signsFrom ps) k e a i j he ha (hi .0) hj (hr ∙ ap (spotFrom l k e a i j (paramsAt ps i) (paramsAt ps j)) (ap (λ s. sign s a) hs ∙ sign-from ps i a (hi .1)))

@@ -11,9 +11,11 @@ use Rattle.lines.specs.Lines.{three, sign, lowerEnd, higherEnd}
 use Rattle.lines.specs.Parameters.{signs, signsOf}
 use Rattle.order.specs.PairTest.{signsOfU, outcomeOn, outcomesOn}
 use Rattle.order.specs.Order.{Ordering, orderAlong, orderingOn, ordersOf}
+use Rattle.table.specs.Table.{crossedFrom, entryFor, crossedIn}
+use Rattle.edges.specs.declared.Order.{Order}
 use Rattle.edges.specs.Code.{tested, orderBy, beforeIn, orderingFrom, testFine, orderOf}
 use Rattle.order.proofs.Every.{seven, eight, in-seven, in-eight}
-use Rattle.coded.proofs.Orders.{is-order, back-order, back-tests}
+use Rattle.coded.proofs.Orders.{is-order, crossed-01, crossed-12, crossed-02, back-order, back-tests}
 use Rattle.walk.specs.Code.{befores, flagsAndRing as codeRing, beyondALine}
 use Rattle.coded.proofs.Rings.{IsRing, is-ring}
 use Rattle.walk.proofs.Beyond.{Nothing, nothing-beyond, untested-beyond}
@@ -74,17 +76,28 @@ module _ (l : List Float) where
   edge2-tests = ap (λ d. d .tests) edge2-back ∙ (back-tests (outcomesOf l 2) (s 0) (s 2) (eight-outcomes 2) (seven-signs 0) (seven-signs 2) ∙ ap (λ d. d .tests) edge2-forth)
 
   -- the code's orders
-  abbrev coded : ℕ → ℕ → List Bool
-  coded i j = orderBy (tested (paramsOf l i) (paramsOf l j) (s i)) (s i) (s j) .before
+  abbrev entry : ℕ
+  entry = entryFor (s 0 ∷ s 1 ∷ s 2 ∷ [])
 
-  coded-is : (i j : ℕ) → coded i j ≡ beforeIn (from i j .order)
-  unfolding orderOf
-  coded-is i j = ap (λ o. o .before) (is-order (paramsOf l i) (paramsOf l j))
+  abbrev coded : ℕ → ℕ → ℕ → Order
+  coded e i j = orderBy (tested (paramsOf l i) (paramsOf l j) (s i)) (s i) (crossedIn entry e)
 
-  pub befores-are : befores (edgeOrders l) ≡ coded 0 1 ∷ coded 1 2 ∷ coded 0 2 ∷ []
-  unfolding befores edgeOrders ordersOf
+  coded-is : (e i j : ℕ) → crossedIn entry e ≡ crossedFrom (s i) (s j) → coded e i j ≡ orderOf (paramsOf l i) (paramsOf l j)
+  coded-is e i j h = ap (orderBy (tested (paramsOf l i) (paramsOf l j) (s i)) (s i)) h ∙ is-order (paramsOf l i) (paramsOf l j)
+
+  coded0 : coded 0 0 1 ≡ orderOf (paramsOf l 0) (paramsOf l 1)
+  coded0 = coded-is 0 0 1 (crossed-01 (s 0) (s 1) (s 2) (seven-signs 0) (seven-signs 1) (seven-signs 2))
+
+  coded1 : coded 1 1 2 ≡ orderOf (paramsOf l 1) (paramsOf l 2)
+  coded1 = coded-is 1 1 2 (crossed-12 (s 0) (s 1) (s 2) (seven-signs 0) (seven-signs 1) (seven-signs 2))
+
+  coded2 : coded 2 0 2 ≡ orderOf (paramsOf l 0) (paramsOf l 2)
+  coded2 = coded-is 2 0 2 (crossed-02 (s 0) (s 1) (s 2) (seven-signs 0) (seven-signs 1) (seven-signs 2))
+
+  pub befores-are : befores (edgeOrders l) ≡ coded 0 0 1 .before ∷ coded 1 1 2 .before ∷ coded 2 0 2 .before ∷ []
+  unfolding befores edgeOrders ordersOf orderOf
   befores-are =
-      rw (coded-is 0 1, coded-is 1 2, coded-is 0 2, sym edge2-order)
+      rw (coded0, coded1, coded2, sym edge2-order)
       (ap₂ (λ x y. x ∷ y ∷ beforeIn (reverse (decidedAt 2 .order)) ∷ []) (ap (λ d. beforeIn (d .order)) edge0) (ap (λ d. beforeIn (d .order)) edge1))
 
   -- ---- the row of the pair tests
@@ -103,25 +116,18 @@ module _ (l : List Float) where
       ∙ (sym (and-assoc (all finite (pairDOf l x .way)) (all finite (testsWay l xs)) (all finite (testsWay l ys)))
       ∙ ap (λ b. b && all finite (testsWay l ys)) (sym (all-append finite (pairDOf l x .way) (testsWay l xs)))))
 
-  abbrev fineOn : ℕ → ℕ → Bool
-  fineOn i j = orderBy (tested (paramsOf l i) (paramsOf l j) (s i)) (s i) (s j) .fine
-
-  fine-is : (i j : ℕ) → fineOn i j ≡ all (testFine (paramsOf l i) (paramsOf l j)) (from i j .tests)
-  unfolding orderOf
-  fine-is i j = ap (λ o. o .fine) (is-order (paramsOf l i) (paramsOf l j))
-
-  pub tests-fine : (fineOn 0 1 && (fineOn 1 2 && fineOn 0 2)) ≡ all finite (wayOf wayToPairTest l)
-  unfolding wayOf testsOf testsOn
+  pub tests-fine : (coded 0 0 1 .fine && (coded 1 1 2 .fine && coded 2 0 2 .fine)) ≡ all finite (wayOf wayToPairTest l)
+  unfolding wayOf testsOf testsOn orderOf
   tests-fine =
       let on : ℕ → List (ℕ × (ℕ × ℕ)) = λ e. map (λ t. (e, t)) (decidedAt e .tests) in
       sym (tests-append (on 0) (on 1 ++ on 2)
-      ∙ ap₂ _&&_ (tests-way 0 (decidedAt 0 .tests) ∙ (ap (λ d. all (testFine (paramsOf l 0) (paramsOf l 1)) (d .tests)) edge0 ∙ sym (fine-is 0 1)))
+      ∙ ap₂ _&&_ (tests-way 0 (decidedAt 0 .tests) ∙ (ap (λ d. all (testFine (paramsOf l 0) (paramsOf l 1)) (d .tests)) edge0 ∙ sym (ap (λ o. o .fine) coded0)))
       (tests-append (on 1) (on 2)
-      ∙ ap₂ _&&_ (tests-way 1 (decidedAt 1 .tests) ∙ (ap (λ d. all (testFine (paramsOf l 1) (paramsOf l 2)) (d .tests)) edge1 ∙ sym (fine-is 1 2)))
-      (tests-way 2 (decidedAt 2 .tests) ∙ (ap (all (testFine (paramsOf l 0) (paramsOf l 2))) edge2-tests ∙ sym (fine-is 0 2)))))
+      ∙ ap₂ _&&_ (tests-way 1 (decidedAt 1 .tests) ∙ (ap (λ d. all (testFine (paramsOf l 1) (paramsOf l 2)) (d .tests)) edge1 ∙ sym (ap (λ o. o .fine) coded1)))
+      (tests-way 2 (decidedAt 2 .tests) ∙ (ap (all (testFine (paramsOf l 0) (paramsOf l 2))) edge2-tests ∙ sym (ap (λ o. o .fine) coded2)))))
 
   -- ---- the ring
-  pub ring-is : IsRing (vertexSigns l) (edgeOrders l) (codeRing (vertexSigns l) (befores (edgeOrders l)))
+  pub ring-is : IsRing (vertexSigns l) (edgeOrders l) (codeRing (vertexSigns l) (entryFor (vertexSigns l)) (befores (edgeOrders l)))
   unfolding vertexSigns signsOfU signsOf edgeOrders
   ring-is = is-ring (s 0) (s 1) (s 2) (seven-signs 0) (seven-signs 1) (seven-signs 2) (outcomesOf l) eight-outcomes
 

@@ -15,6 +15,7 @@ use Rattle.floats.specs.declared.Position.{Position}
 use Rattle.lines.specs.declared.Params.{Params}
 use Rattle.lines.specs.Parameters.{parametersBy, valuesOf, signsOf}
 use Rattle.edges.specs.declared.Order.{Order}
+use Rattle.table.specs.Table.{entryFor, crossedIn}
 use Rattle.edges.specs.Code.{tested, orderBy}
 use Rattle.ring.specs.Places.{Place, fifteen}
 use Rattle.ring.specs.Demand.{NoneOrThreeToSix}
@@ -94,7 +95,7 @@ module _ (l room : List Float) (n : length l ≡ 12) (m : 12 ≤ length room) (f
       }
 
 -- ---- the ring's corners
-module _ (l room : List Float) (n : length l ≡ 12) (m : 12 ≤ length room) (front : frontOf l ≡ 0) (tests : all finite (wayOf wayToPairTest l) ≡ true) (r : Ring) (hr : r ≡ codeRing (vertexSigns l) (befores (edgeOrders l))) where
+module _ (l room : List Float) (n : length l ≡ 12) (m : 12 ≤ length room) (front : frontOf l ≡ 0) (tests : all finite (wayOf wayToPairTest l) ≡ true) (r : Ring) (hr : r ≡ codeRing (vertexSigns l) (entryFor (vertexSigns l)) (befores (edgeOrders l))) where
   abbrev cs : List (Point Way)
   cs = ringPositions l
 
@@ -201,9 +202,9 @@ module _ (l room : List Float) (n : length l ≡ 12) (m : 12 ≤ length room) (f
     keeps-late-refusal h = keeps-refusal l room (back-not-fine l room n m front (back h)) (λ e. omega (arith, e))
 
 -- ---- as the code comes to it: parameters, signs and orders under names of its own
-module _ (l room : List Float) (ps : List Params) (ss bs : List (List Bool)) (known : (length l ≡ 12) × (12 ≤ length room) × (frontOf l ≡ 0) × (all finite (wayOf wayToPairTest l) ≡ true)) (named : (ps ≡ params l) × (ss ≡ vertexSigns l) × (bs ≡ befores (edgeOrders l))) (w : Ring) (hw : w ≡ codeRing ss bs) where
-  same-ring : w ≡ codeRing (vertexSigns l) (befores (edgeOrders l))
-  same-ring = hw ∙ ap₂ codeRing (named .1) (named .2)
+module _ (l room : List Float) (ps : List Params) (ss : List (List Bool)) (bs : List ℕ) (known : (length l ≡ 12) × (12 ≤ length room) × (frontOf l ≡ 0) × (all finite (wayOf wayToPairTest l) ≡ true)) (named : (ps ≡ params l) × (ss ≡ vertexSigns l) × (bs ≡ befores (edgeOrders l))) (w : Ring) (hw : w ≡ codeRing ss (entryFor ss) bs) where
+  same-ring : w ≡ codeRing (vertexSigns l) (entryFor (vertexSigns l)) (befores (edgeOrders l))
+  same-ring = hw ∙ ap₂ (λ ss. codeRing ss (entryFor ss)) (named .1) (named .2)
 
   pub place-kept : (k : ℕ) → k < w .n → spotAt l (params l) (vertexSigns l) (w .places) k .corner ≡ cornerAt l k
   place-kept = corner-kept l room (known .0) (known .1) (known .2) (known .3) w same-ring
@@ -231,18 +232,21 @@ module _ (l room : List Float) (p q r : Params) (s t u : List Bool) (known : (le
   signs-named : s ∷ t ∷ u ∷ [] ≡ vertexSigns l
   signs-named = rw (hs, ht, hu, named .0, named .1, named .2) (sym (signs-are l))
 
-  module _ (a b c : Order) (ha : a ≡ orderBy (tested p q s) s t) (hb : b ≡ orderBy (tested q r t) t u) (hc : c ≡ orderBy (tested p r s) s u) where
-    abbrev at-edge : ℕ → ℕ → Order
-    at-edge i j = orderBy (tested (paramsOf l i) (paramsOf l j) (signsOf (paramsOf l i))) (signsOf (paramsOf l i)) (signsOf (paramsOf l j))
+  module _ (a b c : Order) (ha : a ≡ orderBy (tested p q s) s (crossedIn (entryFor (s ∷ t ∷ u ∷ [])) 0)) (hb : b ≡ orderBy (tested q r t) t (crossedIn (entryFor (s ∷ t ∷ u ∷ [])) 1)) (hc : c ≡ orderBy (tested p r s) s (crossedIn (entryFor (s ∷ t ∷ u ∷ [])) 2)) where
+    abbrev entry : ℕ
+    entry = entryFor (signsOf (paramsOf l 0) ∷ signsOf (paramsOf l 1) ∷ signsOf (paramsOf l 2) ∷ [])
 
-    a-is : a ≡ at-edge 0 1
-    a-is = ha ∙ rw (hs, ht, named .0, named .1) refl
+    abbrev at-edge : ℕ → ℕ → ℕ → Order
+    at-edge e i j = orderBy (tested (paramsOf l i) (paramsOf l j) (signsOf (paramsOf l i))) (signsOf (paramsOf l i)) (crossedIn entry e)
 
-    b-is : b ≡ at-edge 1 2
-    b-is = hb ∙ rw (ht, hu, named .1, named .2) refl
+    a-is : a ≡ at-edge 0 0 1
+    a-is = ha ∙ rw (hs, ht, hu, named .0, named .1, named .2) refl
 
-    c-is : c ≡ at-edge 0 2
-    c-is = hc ∙ rw (hs, hu, named .0, named .2) refl
+    b-is : b ≡ at-edge 1 1 2
+    b-is = hb ∙ rw (hs, ht, hu, named .0, named .1, named .2) refl
+
+    c-is : c ≡ at-edge 2 0 2
+    c-is = hc ∙ rw (hs, ht, hu, named .0, named .1, named .2) refl
 
     all-fine-is : (a .fine && (b .fine && c .fine)) ≡ all finite (wayOf wayToPairTest l)
     all-fine-is = rw (a-is, b-is, c-is) (tests-fine l)

@@ -13,6 +13,7 @@ use Rattle.floats.specs.Lists.{all}
 use Rattle.floats.specs.Finite.{finite}
 use Rattle.lines.specs.declared.Params.{Params}
 use Rattle.lines.specs.Parameters.{signsOf}
+use Rattle.table.specs.Table.{entryFor, crossedIn}
 use Rattle.edges.specs.declared.Order.{Order}
 use Rattle.edges.specs.Code.{tested, orderBy}
 use Rattle.walk.specs.declared.PlaceCode.{PlaceCode}
@@ -47,9 +48,9 @@ spots-length l ps ss places (suc n) =
     let two : 2 * n + 2 ≡ 2 * suc n = omega arith in
     length-append (spotsTo l ps ss places n) _ ∙ (ap (λ m. m + 2) (spots-length l ps ss places n) ∙ two)
 
-module _ (l room : List Float) (ps : List Params) (ss bs : List (List Bool)) (known : (length l ≡ 12) × (12 ≤ length room) × (frontOf l ≡ 0) × (all finite (wayOf wayToPairTest l) ≡ true)) (named : (ps ≡ params l) × (ss ≡ vertexSigns l) × (bs ≡ befores (edgeOrders l))) where
+module _ (l room : List Float) (ps : List Params) (ss : List (List Bool)) (bs : List ℕ) (known : (length l ≡ 12) × (12 ≤ length room) × (frontOf l ≡ 0) × (all finite (wayOf wayToPairTest l) ≡ true)) (named : (ps ≡ params l) × (ss ≡ vertexSigns l) × (bs ≡ befores (edgeOrders l))) where
   abbrev w : Ring
-  w = flagsAndRing ss bs
+  w = flagsAndRing ss (entryFor ss) bs
 
   abbrev spots : List Float
   spots = spotsTo l ps ss (w .places) (w .n)
@@ -82,26 +83,26 @@ module _ (l room : List Float) (p q r : Params) (known : (length l ≡ 12) × (1
   abbrev ss : List (List Bool)
   ss = signsOf p ∷ signsOf q ∷ signsOf r ∷ []
 
-  abbrev between : Params → Params → Order
-  between x y = orderBy (tested x y (signsOf x)) (signsOf x) (signsOf y)
+  abbrev along : ℕ → Params → Params → Order
+  along e x y = orderBy (tested x y (signsOf x)) (signsOf x) (crossedIn (entryFor ss) e)
 
   abbrev a : Order
-  a = between p q
+  a = along 0 p q
 
   abbrev b : Order
-  b = between q r
+  b = along 1 q r
 
   abbrev c : Order
-  c = between p r
+  c = along 2 p r
 
-  abbrev bs : List (List Bool)
+  abbrev bs : List ℕ
   bs = a .before ∷ b .before ∷ c .before ∷ []
 
   ordered-keeps : Keeps l room (orderedBy l p q r)
   unfolding orderedBy
   ordered-keeps = go (a .fine && (b .fine && c .fine)) refl
     where
-      go : (f : Bool) → (a .fine && (b .fine && c .fine)) ≡ f → Keeps l room (cond f (placedAs l ps ss (flagsAndRing ss bs)) (outcomeRefused 4))
+      go : (f : Bool) → (a .fine && (b .fine && c .fine)) ≡ f → Keeps l room (cond f (placedAs l ps ss (flagsAndRing ss (entryFor ss) bs)) (outcomeRefused 4))
       go true h = placed-keeps l room ps ss bs (tests-known l room p q r (signsOf p) (signsOf q) (signsOf r) known named refl refl refl a b c refl refl refl h) (all-named l room p q r (signsOf p) (signsOf q) (signsOf r) known named refl refl refl a b c refl refl refl)
       go false h = refused-keeps l room 4 (λ z. omega (arith, z)) (tests-refusal-kept l room p q r (signsOf p) (signsOf q) (signsOf r) known named refl refl refl a b c refl refl refl h refl)
 

@@ -16,6 +16,7 @@ use Rattle.floats.specs.declared.Position.{Position}
 use Rattle.floats.proofs.Lists.{taken, left}
 use Rattle.lines.specs.declared.Params.{Params}
 use Rattle.lines.specs.Parameters.{signsOf}
+use Rattle.table.specs.Table.{entryFor, crossedIn}
 use Rattle.edges.specs.declared.Order.{Order}
 use Rattle.edges.specs.Code.{tested, orderBy}
 use Rattle.walk.specs.declared.Ring.{Ring}
@@ -46,8 +47,8 @@ module _ (xy : List Float) (n : ℕ) where
   same-area = rw (same-sum (n - 2) (omega arith)) refl
 
 -- a ring of the code fits in six corners
-pub ring-fits : (ss bs : List (List Bool)) {w : Ring} → w ≡ flagsAndRing ss bs → w .n ≤ 6
-ring-fits ss bs h = subst (λ v. v .n ≤ 6) (sym h) (six-at-most ss bs)
+pub ring-fits : (ss : List (List Bool)) (entry : ℕ) (bs : List ℕ) {w : Ring} → w ≡ flagsAndRing ss entry bs → w .n ≤ 6
+ring-fits ss entry bs h = subst (λ v. v .n ≤ 6) (sym h) (six-at-most ss entry bs)
 
 -- nothing found, with a number
 pub finds-nothing : {o : Outcome} {f : Found} (k : ℕ) → o ≡ outcomeRefused k → Finds (outcomeRefused k) f → Finds o f
@@ -80,16 +81,17 @@ module _ (l : List Float) (ps : List Params) (ss : List (List Bool)) (w : Ring) 
   finds-late {f} hw h e = subst (λ v. Finds (placedAs l ps ss v) f) hw (finds-nothing 4 (unfold placedAs in sym (left (answeredWith w (areaBy spots (w .n)) spots) (test-is h) refl)) e)
 
 -- ---- from the parameters on
-module _ (l : List Float) (p q r : Params) (s t u : List Bool) (hs : s ≡ signsOf p) (ht : t ≡ signsOf q) (hu : u ≡ signsOf r) (a b c : Order) (ha : a ≡ orderBy (tested p q s) s t) (hb : b ≡ orderBy (tested q r t) t u) (hc : c ≡ orderBy (tested p r s) s u) where
+module _ (l : List Float) (p q r : Params) (s t u : List Bool) (hs : s ≡ signsOf p) (ht : t ≡ signsOf q) (hu : u ≡ signsOf r) (entry : ℕ) (he : entry ≡ entryFor (s ∷ t ∷ u ∷ [])) (i j k : ℕ) (hi : i ≡ crossedIn entry 0) (hj : j ≡ crossedIn entry 1) (hk : k ≡ crossedIn entry 2)
+    (a b c : Order) (ha : a ≡ orderBy (tested p q s) s i) (hb : b ≡ orderBy (tested q r t) t j) (hc : c ≡ orderBy (tested p r s) s k) where
   abbrev fine : Bool
   fine = a .fine && (b .fine && c .fine)
 
   abbrev placed : Outcome
-  placed = placedAs l (p ∷ q ∷ r ∷ []) (s ∷ t ∷ u ∷ []) (flagsAndRing (s ∷ t ∷ u ∷ []) (a .before ∷ b .before ∷ c .before ∷ []))
+  placed = placedAs l (p ∷ q ∷ r ∷ []) (s ∷ t ∷ u ∷ []) (flagsAndRing (s ∷ t ∷ u ∷ []) entry (a .before ∷ b .before ∷ c .before ∷ []))
 
   ordered : {f : Bool} → fine ≡ f → orderedBy l p q r ≡ cond f placed (outcomeRefused 4)
   unfolding orderedBy
-  ordered h = rw (sym h, ha, hb, hc, hs, ht, hu) refl
+  ordered h = rw (sym h, ha, hb, hc, hi, hj, hk, he, hs, ht, hu) refl
 
   pub orders-find : {f : Found} → fine ≡ true → Finds placed f → Finds (orderedBy l p q r) f
   orders-find {f} h = subst (λ o. Finds o f) (sym (ordered h))

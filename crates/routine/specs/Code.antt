@@ -1,7 +1,7 @@
 -- The steps of the code from the values to the answer. That they give the answer of the rules is the entry point's promise. Definitions and a statement.
 use mathlib.Core.Path.{_≡_}
 use mathlib.Core.Bool.{Bool, true, _&&_, cond}
-use mathlib.Core.List.{List, [], _∷_, _++_}
+use mathlib.Core.List.{List, [], _∷_, _++_, map}
 use Prim.Native.Nat.{ℕ, zero, suc, _+_, _-_, _*_, _/_, _%_, _≤_}
 use lib.Dec.{eqb, ltb}
 use lib.ListN.{getD, take}
@@ -10,10 +10,11 @@ use Rattle.floats.specs.Finite.{finite, nought}
 use Rattle.floats.specs.Numbers.{crossFrom}
 use Rattle.floats.specs.Way.{f64, at}
 use Rattle.floats.specs.declared.Position.{Position}
-use Rattle.lines.specs.Lines.{signsAt, start, finish}
+use Rattle.lines.specs.Lines.{three, signsAt, start, finish}
 use Rattle.lines.specs.declared.Params.{Params}
 use Rattle.lines.specs.Parameters.{parameter, carried, paramsBy, signsOf}
 use Rattle.ring.specs.Places.{Place, vertex, corner, crossing}
+use Rattle.table.specs.Table.{entryFor, crossedIn}
 use Rattle.edges.specs.Code.{tested, orderBy}
 use Rattle.walk.specs.declared.PlaceCode.{PlaceCode}
 use Rattle.walk.specs.declared.Ring.{Ring}
@@ -75,6 +76,10 @@ spotOf l ps ss (crossing e a) = cond (signsAt ss (start e) a) (crossOf l ps e a 
 -- the spot of the ring's place i
 abbrev pub spotAt : List Float → List Params → List (List Bool) → List PlaceCode → ℕ → Spot
 spotAt l ps ss places i = spotOf l ps ss (placeOfCode (getD places i (coded 0) .code))
+
+-- the signs of three vertices, by their parameters
+abbrev pub signsFrom : List Params → List (List Bool)
+signsFrom ps = map (λ i. signsOf (paramsAt ps i)) three
 
 -- the edge of the crossing with a number, 3 of a number below 6; and its line
 abbrev pub edgeIn : ℕ → ℕ
@@ -148,11 +153,12 @@ orderedBy l p q r =
     let s = signsOf p in
     let t = signsOf q in
     let u = signsOf r in
-    let a = orderBy (tested p q s) s t in
-    let b = orderBy (tested q r t) t u in
-    let c = orderBy (tested p r s) s u in
     let ss = s ∷ t ∷ u ∷ [] in
-    cond (a .fine && (b .fine && c .fine)) (placedAs l (p ∷ q ∷ r ∷ []) ss (flagsAndRing ss (a .before ∷ b .before ∷ c .before ∷ []))) (outcomeRefused 4)
+    let entry = entryFor ss in
+    let a = orderBy (tested p q s) s (crossedIn entry 0) in
+    let b = orderBy (tested q r t) t (crossedIn entry 1) in
+    let c = orderBy (tested p r s) s (crossedIn entry 2) in
+    cond (a .fine && (b .fine && c .fine)) (placedAs l (p ∷ q ∷ r ∷ []) ss (flagsAndRing ss entry (a .before ∷ b .before ∷ c .before ∷ []))) (outcomeRefused 4)
 
 -- from d, e and the parameters on: the rows before the pair tests first
 unfoldable pub settledBy : List Float → Float → Float → Params → Params → Params → Outcome

@@ -66,12 +66,13 @@ fn placed(
     values: &[f64],
     params: [lines::Params; 3],
     signs: [[bool; 3]; 3],
-    before: [[bool; 3]; 3],
+    entry: u16,
+    before: [u16; 3],
 ) -> Found
     requires { ⌜ length (now values) ≡ 12 ⌝ }
-    ensures { λ f. ⌜ Finds (placedAs (now (values .entry)) params signs (flagsAndRing signs before)) f ⌝ }
+    ensures { λ f. ⌜ Finds (placedAs (now (values .entry)) params signs (flagsAndRing signs entry before)) f ⌝ }
 {
-    let w = walk::flags_and_ring(signs, before);
+    let w = walk::flags_and_ring(signs, entry, before);
     let places = w.places;
     let n = w.n;
     let c = corners_of(values, params, signs, places, n);
@@ -94,7 +95,7 @@ fn placed(
     nothing(4)
 }
 
-// From the parameters on: the orders along U's edges are decided, all three.
+// From the parameters on: the table tells which lines U's edges cross, and the orders along them are decided, all three.
 fn ordered(values: &[f64], p: lines::Params, q: lines::Params, r: lines::Params) -> Found
     requires { ⌜ length (now values) ≡ 12 ⌝ }
     ensures { λ f. ⌜ Finds (orderedBy (now (values .entry)) p q r) f ⌝ }
@@ -102,14 +103,16 @@ fn ordered(values: &[f64], p: lines::Params, q: lines::Params, r: lines::Params)
     let s = lines::signs_of(p);
     let t = lines::signs_of(q);
     let u = lines::signs_of(r);
-    let a = edges::order_of(p, q, s, t);
-    let b = edges::order_of(q, r, t, u);
-    let c = edges::order_of(p, r, s, u);
+    let signs = [s, t, u];
+    let entry = table::entry_of(signs);
+    let a = edges::order_of(p, q, s, table::crossed_by(entry, 0));
+    let b = edges::order_of(q, r, t, table::crossed_by(entry, 1));
+    let c = edges::order_of(p, r, s, table::crossed_by(entry, 2));
     if a.fine & (b.fine & c.fine) {
         let x = a.before;
         let y = b.before;
         let z = c.before;
-        return placed(values, [p, q, r], [s, t, u], [x, y, z]);
+        return placed(values, [p, q, r], signs, entry, [x, y, z]);
     }
     nothing(4)
 }
@@ -207,8 +210,7 @@ pub fn corner_at(values: &[f64], place: usize) -> corners::Told
     }
     if place < (answer.n as usize) {
         let places = f.places;
-        let signs = [lines::signs_of(p), lines::signs_of(q), lines::signs_of(r)];
-        return corners::told_of(corner_in(values, [p, q, r], signs, places[place]));
+        return corners::told_of(corner_in(values, [p, q, r], places[place]));
     }
     corners::no_corner(6)
 }

@@ -3,7 +3,7 @@ ghost use mathlib.Core.Path.{_≡_};
 ghost use Prim.Native.Nat.{_*_, _<_, _≤_};
 ghost use lib.ListN.{length, take};
 ghost use Rattle.walk.specs.Code.{placeOfCode};
-ghost use Rattle.routine.specs.Code.{positionAt, standing, kindIn, crossSpot, edgeIn, lineIn, spotFrom, spotOf, spotsTo, fineTo, areaBy};
+ghost use Rattle.routine.specs.Code.{positionAt, standing, kindIn, crossSpot, edgeIn, lineIn, spotFrom, spotOf, signsFrom, spotsTo, fineTo, areaBy};
 
 // A corner of the ring; and whether the denominator of its t, if it has one, is finite.
 pub(crate) struct Spot {
@@ -162,15 +162,14 @@ pub(crate) fn corners_of(
     Corners { xy, fine }
 }
 
-// The corner at a place of the ring.
+// The corner at a place of the ring. Of a crossing one sign is looked at, that of its edge's start on its line.
 pub(crate) fn corner_in(
     values: &[f64],
     params: [lines::Params; 3],
-    signs: [[bool; 3]; 3],
     place: walk::PlaceCode,
 ) -> triangles::Corner
     requires { ⌜ length (now values) ≡ 12 ⌝ }
-    ensures { λ r. ⌜ r ≡ spotOf (now (values .entry)) params signs (placeOfCode (place .code)) .corner ⌝ }
+    ensures { λ r. ⌜ r ≡ spotOf (now (values .entry)) params (signsFrom params) (placeOfCode (place .code)) .corner ⌝ }
 {
     let e = edge_in(place);
     let a = line_in(place);
@@ -178,7 +177,8 @@ pub(crate) fn corner_in(
     let finish = lines::end_of(e, 1);
     let p = params[start];
     let q = params[finish];
-    let spot = spot_of(values, place, e, a, start, finish, p, q, signs[start][a]);
+    let s = lines::signs_of(p);
+    let spot = spot_of(values, place, e, a, start, finish, p, q, s[a]);
     spot.corner
 }
 

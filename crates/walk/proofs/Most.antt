@@ -9,9 +9,8 @@ use lib.Ieee.Fits.{and-r}
 use lib.ListN.{set}
 use borrow.Author.Tests.{ltb-true}
 use Rattle.floats.proofs.Lists.{so, os}
-use Rattle.lines.specs.Lines.{sign}
 use Rattle.walk.specs.declared.Walk.{Walk}
-use Rattle.walk.specs.Code.{coded, leftBy, firstBy, begun, pushed, cornered, entering, leaving, alongEdge, closing, walkOf, flagsAndRing}
+use Rattle.walk.specs.Code.{coded, leftBy, firstBy, begun, pushed, lineOfDigit, cornered, entering, leaving, alongEdge, closing, walkOf, flagsAndRing}
 
 record Fits (w : Walk) : Type 0 where
   most : w .n ≤ 6
@@ -35,37 +34,40 @@ first-fits a h = record { most = h .most }
 left-fits : {w : Walk} (a : ℕ) → Fits w → Fits (leftBy w a)
 left-fits a h = record { most = h .most }
 
-cornered-fits : (w : Walk) (inside : List Bool) (a : ℕ) → Fits w → Fits (cornered w inside a)
+cornered-fits : (w : Walk) (k a : ℕ) → Fits w → Fits (cornered w k a)
 unfolding cornered
-cornered-fits w inside a h = pushed-fits _ _ 5 (pushed-fits _ _ 4 (pushed-fits _ _ 3 (pushed-fits _ _ 5 (pushed-fits _ _ 4 (pushed-fits w _ 3 h)))))
+cornered-fits w k a h = pushed-fits _ _ 5 (pushed-fits _ _ 4 (pushed-fits _ _ 3 (pushed-fits _ _ 5 (pushed-fits _ _ 4 (pushed-fits w _ 3 h)))))
 
-entering-fits : (w : Walk) (inside : List Bool) (some : Bool) (e a : ℕ) → Fits w → Fits (entering w inside some e a)
+entering-fits : (w : Walk) (k e m : ℕ) → Fits w → Fits (entering w k e m)
 unfolding entering
-entering-fits w inside some e a h =
+entering-fits w k e m h =
+    let a = lineOfDigit m in
     let more = pushed-fits w true (6 + 3 * e + a) h in
-    either (ltb a 3)
+    either (eqb m 0) h
     (either (eqb (w .left) 3) (first-fits a more)
-    (either (some && not (eqb (w .left) a)) (left-fits 3 (pushed-fits _ true (6 + 3 * e + a) (cornered-fits w inside (w .left) h))) (left-fits 3 more))) h
+    (either (not (eqb k 0) && not (eqb (w .left) a)) (left-fits 3 (pushed-fits _ true (6 + 3 * e + a) (cornered-fits w k (w .left) h))) (left-fits 3 more)))
 
-leaving-fits : (w : Walk) (e a : ℕ) → Fits w → Fits (leaving w e a)
+leaving-fits : (w : Walk) (e m : ℕ) → Fits w → Fits (leaving w e m)
 unfolding leaving
-leaving-fits w e a h = either (ltb a 3) (left-fits a (pushed-fits w true (6 + 3 * e + a) h)) h
+leaving-fits w e m h = either (eqb m 0) h (left-fits (lineOfDigit m) (pushed-fits w true (6 + 3 * e + lineOfDigit m) h))
 
-along-fits : (w : Walk) (inside : List Bool) (some : Bool) (e : ℕ) (s on : List Bool) → Fits w → Fits (alongEdge w inside some e s on)
+along-fits : (w : Walk) (k e : ℕ) (isIn : Bool) (s on : ℕ) → Fits w → Fits (alongEdge w k e isIn s on)
 unfolding alongEdge
-along-fits w inside some e s on h = leaving-fits _ e _ (entering-fits _ inside some e _ (pushed-fits w _ e h))
+along-fits w k e isIn s on h =
+    let more = pushed-fits w isIn e h in
+    either (eqb on 0) more (leaving-fits _ e _ (entering-fits _ k e _ more))
 
-closing-fits : (w : Walk) (inside : List Bool) (some : Bool) → Fits w → Fits (closing w inside some)
+closing-fits : (w : Walk) (k : ℕ) → Fits w → Fits (closing w k)
 unfolding closing
-closing-fits w inside some h =
-    let all = sign inside 0 && (sign inside 1 && sign inside 2) in
+closing-fits w k h =
+    let all = eqb k 7 in
     either (eqb (w .n) 0) (pushed-fits _ all 5 (pushed-fits _ all 4 (pushed-fits w all 3 h)))
-    (either (some && (ltb (w .left) 3 && not (eqb (w .left) (w .first)))) (cornered-fits w inside (w .left) h) h)
+    (either (not (eqb k 0) && (ltb (w .left) 3 && not (eqb (w .left) (w .first)))) (cornered-fits w k (w .left) h) h)
 
-walk-fits : (ss : List (List Bool)) (p q r k : List Bool) → Fits (walkOf ss p q r k)
+walk-fits : (ss : List (List Bool)) (inV : List Bool) (on k : ℕ) → Fits (walkOf ss inV on k)
 unfolding walkOf begun
-walk-fits ss p q r k = closing-fits _ k _ (along-fits _ k _ 2 _ r (along-fits _ k _ 1 _ q (along-fits begun k _ 0 _ p (record { most = omega arith }))))
+walk-fits ss inV on k = closing-fits _ k (along-fits _ k 2 _ _ _ (along-fits _ k 1 _ _ _ (along-fits begun k 0 _ _ _ (record { most = omega arith }))))
 
-pub six-at-most : (ss os : List (List Bool)) → flagsAndRing ss os .n ≤ 6
+pub six-at-most : (ss : List (List Bool)) (entry : ℕ) (os : List ℕ) → flagsAndRing ss entry os .n ≤ 6
 unfolding flagsAndRing
-six-at-most ss os = walk-fits ss _ _ _ _ .most
+six-at-most ss entry os = walk-fits ss _ _ _ .most

@@ -1,7 +1,6 @@
 -- Each way out has the order and the tests that the rule gives it.
 use mathlib.Core.Path.{_≡_, refl, sym, ap, _∙_}
 use mathlib.Core.Bool.{Bool, true, false, _&&_}
-use mathlib.Core.List.{List}
 use Prim.Native.Nat.{ℕ}
 use Rattle.floats.proofs.Lists.{taken, left}
 use Rattle.edges.specs.declared.Test.{Test}
@@ -10,7 +9,7 @@ use borrow.Author.Needs.{needs}
 use Rattle.edges.proofs.around.Statement.{statement}
 use Rattle.edges.proofs.around.Tie as tie
 
-module _ (tests : ℕ → Test) (far : Bool) (c a b : ℕ) (o : List Bool) (t u v : Test) (ht : t ≡ seenFirst tests far a c) (hu : u ≡ seenFirst tests far b c) (hv : v ≡ seenFirst tests far a b) where
+module _ (tests : ℕ → Test) (far : Bool) (c a b o : ℕ) (t u v : Test) (ht : t ≡ seenFirst tests far a c) (hu : u ≡ seenFirst tests far b c) (hv : v ≡ seenFirst tests far a b) where
   first-of : {x y : Test} {r : Bool} → x ≡ y → x .first ≡ r → y .first ≡ r
   first-of e h = ap (λ z. z .first) (sym e) ∙ h
 

@@ -61,15 +61,6 @@ returns-3 c =
 cast-if4 : tie.Need-cast-if4
 cast-if4 c = search needs
 
-signs-of-requires : tie.Need-signs-of-requires
-signs-of-requires c κs = search needs
-
-signs-of-requires-2 : tie.Need-signs-of-requires-2
-signs-of-requires-2 c κs = search needs
-
-signs-of-requires-3 : tie.Need-signs-of-requires-3
-signs-of-requires-3 c κs = search needs
-
 array-copy-out-corner-in : tie.Need-array-copy-out-corner-in
 array-copy-out-corner-in c = search needs
 
@@ -99,11 +90,8 @@ returns-4 c =
     let b16 = b15 .before in
     let b17 = b16 .before in
     let b18 = b17 .before in
-    let b19 = b18 .before in
-    let b20 = b19 .before in
-    let b21 = b20 .before in
-    let g = b21 .args in
-    found-told (now (g .values)) (g .place) _ (b19 .if1 .left) (b18 .start-of .ensures) _ (b12 .settled .ensures) _ _ _ (b5 .signs-of .ensures) (b4 .signs-of2 .ensures) (b3 .signs-of3 .ensures) (b9 .if3 .left) (b7 .if4 .taken) (b1 .corner-in .ensures) (c .told-of .ensures)
+    let g = b18 .args in
+    found-told (now (g .values)) (g .place) _ (b16 .if1 .left) (b15 .start-of .ensures) _ (b9 .settled .ensures) (b6 .if3 .left) (b4 .if4 .taken) (b1 .corner-in .ensures) (c .told-of .ensures)
 
 no-corner-requires-4 : tie.Need-no-corner-requires-4
 no-corner-requires-4 c κs = search needs
@@ -142,9 +130,6 @@ corner-at-spec =
     no-corner-requires-3
     returns-3
     cast-if4
-    signs-of-requires
-    signs-of-requires-2
-    signs-of-requires-3
     array-copy-out-corner-in
     corner-in-requires
     told-of-requires

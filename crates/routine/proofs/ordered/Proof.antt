@@ -1,4 +1,4 @@
--- The signs and the orders, as the definition has them.
+-- The signs, the table's entry and the orders, as the definition has them.
 use denote.Ref.{now}
 use Rattle.routine.proofs.Steps.{orders-find, tests-find}
 use borrow.Author.Needs.{needs}
@@ -14,11 +14,23 @@ signs-of-requires-2 c κs = search needs
 signs-of-requires-3 : tie.Need-signs-of-requires-3
 signs-of-requires-3 c κs = search needs
 
+entry-of-requires : tie.Need-entry-of-requires
+entry-of-requires c κs = search needs
+
+crossed-by-requires : tie.Need-crossed-by-requires
+crossed-by-requires c κs = search needs
+
 order-of-requires : tie.Need-order-of-requires
 order-of-requires c κs = search needs
 
+crossed-by-requires-2 : tie.Need-crossed-by-requires-2
+crossed-by-requires-2 c κs = search needs
+
 order-of-requires-2 : tie.Need-order-of-requires-2
 order-of-requires-2 c κs = search needs
+
+crossed-by-requires-3 : tie.Need-crossed-by-requires-3
+crossed-by-requires-3 c κs = search needs
 
 order-of-requires-3 : tie.Need-order-of-requires-3
 order-of-requires-3 c κs = search needs
@@ -43,8 +55,10 @@ returns c =
     let b13 = b12 .before in
     let b14 = b13 .before in
     let b15 = b14 .before in
-    let g = b15 .args in
-    orders-find (now (g .values)) (g .p) (g .q) (g .r) _ _ _ (b13 .signs-of .ensures) (b12 .signs-of2 .ensures) (b11 .signs-of3 .ensures) _ _ _ (b10 .order-of .ensures) (b9 .order-of2 .ensures) (b8 .order-of3 .ensures) (b4 .if1 .taken) (c .placed .ensures)
+    let b16 = b15 .before in
+    let g = b16 .args in
+    orders-find (now (g .values)) (g .p) (g .q) (g .r) _ _ _ (b14 .signs-of .ensures) (b13 .signs-of2 .ensures) (b12 .signs-of3 .ensures) _ (b11 .entry-of .ensures)
+    _ _ _ (b10 .crossed-by .ensures .0) (b8 .crossed-by2 .ensures .0) (b6 .crossed-by3 .ensures .0) _ _ _ (b9 .order-of .ensures) (b7 .order-of2 .ensures) (b5 .order-of3 .ensures) (b1 .if1 .taken) (c .placed .ensures)
 
 nothing-requires : tie.Need-nothing-requires
 nothing-requires c κs = search needs
@@ -63,8 +77,13 @@ returns-2 c =
     let b10 = b9 .before in
     let b11 = b10 .before in
     let b12 = b11 .before in
-    let g = b12 .args in
-    tests-find (now (g .values)) (g .p) (g .q) (g .r) _ _ _ (b10 .signs-of .ensures) (b9 .signs-of2 .ensures) (b8 .signs-of3 .ensures) _ _ _ (b7 .order-of .ensures) (b6 .order-of2 .ensures) (b5 .order-of3 .ensures) (b1 .if1 .left) (c .nothing .ensures)
+    let b13 = b12 .before in
+    let b14 = b13 .before in
+    let b15 = b14 .before in
+    let b16 = b15 .before in
+    let g = b16 .args in
+    tests-find (now (g .values)) (g .p) (g .q) (g .r) _ _ _ (b14 .signs-of .ensures) (b13 .signs-of2 .ensures) (b12 .signs-of3 .ensures) _ (b11 .entry-of .ensures)
+    _ _ _ (b10 .crossed-by .ensures .0) (b8 .crossed-by2 .ensures .0) (b6 .crossed-by3 .ensures .0) _ _ _ (b9 .order-of .ensures) (b7 .order-of2 .ensures) (b5 .order-of3 .ensures) (b1 .if1 .left) (c .nothing .ensures)
 
 pub ordered-spec : {M : Type 1} → statement M
 ordered-spec =
@@ -73,8 +92,12 @@ ordered-spec =
     signs-of-requires
     signs-of-requires-2
     signs-of-requires-3
+    entry-of-requires
+    crossed-by-requires
     order-of-requires
+    crossed-by-requires-2
     order-of-requires-2
+    crossed-by-requires-3
     order-of-requires-3
     placed-requires
     returns

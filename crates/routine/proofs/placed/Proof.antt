@@ -12,19 +12,19 @@ flags-and-ring-requires c κs = search needs
 corners-of-requires : tie.Need-corners-of-requires
 corners-of-requires c κs =
     let b4 = c .before .before .before in
-    (b4 .pre, ring-fits (b4 .args .signs) (b4 .args .before) (c .before .flags-and-ring .ensures))
+    (b4 .pre, ring-fits (b4 .args .signs) (b4 .args .entry) (b4 .args .before) (c .before .flags-and-ring .ensures))
 
 area-of-requires : tie.Need-area-of-requires
 area-of-requires c κs =
     let b3 = c .before .before .before in
     let g = b3 .before .before .args in
-    ring-fits (g .signs) (g .before) (b3 .flags-and-ring .ensures)
+    ring-fits (g .signs) (g .entry) (g .before) (b3 .flags-and-ring .ensures)
 
 is-finite-requires : tie.Need-is-finite-requires
 is-finite-requires c κs = search needs
 
-cast-t17 : tie.Need-cast-t17
-cast-t17 c =
+cast-t18 : tie.Need-cast-t18
+cast-t18 c =
     let b1 = c .before in
     let b2 = b1 .before in
     let b3 = b2 .before in
@@ -37,7 +37,7 @@ cast-t17 c =
     let b10 = b9 .before in
     let b11 = b10 .before in
     let b12 = b11 .before in
-    omega (arith, ring-fits (b12 .args .signs) (b12 .args .before) (b10 .flags-and-ring .ensures))
+    omega (arith, ring-fits (b12 .args .signs) (b12 .args .entry) (b12 .args .before) (b10 .flags-and-ring .ensures))
 
 returns : tie.Need-returns
 returns c =
@@ -55,7 +55,7 @@ returns c =
     let b12 = b11 .before in
     let g = b12 .args in
     finds-ring (now (g .values)) (g .params) (g .signs) _ _ _ _ _ (b8 .corners-of .ensures) (b6 .area-of .ensures) (b5 .is-finite .ensures)
-    (b10 .flags-and-ring .ensures) (ring-fits (g .signs) (g .before) (b10 .flags-and-ring .ensures)) (b3 .if1 .taken)
+    (b10 .flags-and-ring .ensures) (ring-fits (g .signs) (g .entry) (g .before) (b10 .flags-and-ring .ensures)) (b3 .if1 .taken)
 
 nothing-requires : tie.Need-nothing-requires
 nothing-requires c κs = search needs
@@ -83,7 +83,7 @@ placed-spec =
     corners-of-requires
     area-of-requires
     is-finite-requires
-    cast-t17
+    cast-t18
     returns
     nothing-requires
     returns-2)

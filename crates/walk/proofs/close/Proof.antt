@@ -7,15 +7,6 @@ use borrow.Author.Needs.{needs}
 use Rattle.walk.proofs.close.Statement.{statement}
 use Rattle.walk.proofs.close.Tie as tie
 
-array-read-all : tie.Need-array-read-all
-array-read-all c = search needs
-
-array-read-all-2 : tie.Need-array-read-all-2
-array-read-all-2 c = search needs
-
-array-read-all-3 : tie.Need-array-read-all-3
-array-read-all-3 c = search needs
-
 push-requires : tie.Need-push-requires
 push-requires c κs = search needs
 
@@ -44,9 +35,6 @@ pub close-spec : {M : Type 1} → statement M
 close-spec =
     tie.close
     (tie.spec
-    array-read-all
-    array-read-all-2
-    array-read-all-3
     push-requires
     push-requires-2
     push-requires-3

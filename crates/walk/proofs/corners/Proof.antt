@@ -1,5 +1,5 @@
 -- Six guarded places, as the definition has them.
-use mathlib.Core.Path.{_≡_, refl, ap, ap₂, _∙_}
+use mathlib.Core.Path.{_≡_, refl, ap₂, _∙_}
 use mathlib.Core.Bool.{Bool, not, _&&_}
 use mathlib.Core.List.{List}
 use Prim.Native.Nat.{ℕ}
@@ -13,12 +13,15 @@ use Rattle.walk.proofs.corners.Tie as tie
 next : {r v w : Walk} {b c : Bool} (k : ℕ) → r ≡ pushed v b k → v ≡ w → b ≡ c → r ≡ pushed w c k
 next k h hv hb = h ∙ ap₂ (λ v b. pushed v b k) hv hb
 
-module _ (inside : List Bool) (i : ℕ) {x y : Bool} (h : x ≡ y) where
-  here : (sign inside i && x) ≡ (sign inside i && y)
-  here = ap (λ b. sign inside i && b) h
+module _ {f g : List Bool} {x y : Bool} (i : ℕ) (hf : f ≡ g) (hx : x ≡ y) where
+  here : (sign f i && x) ≡ (sign g i && y)
+  here = ap₂ (λ f b. sign f i && b) hf hx
 
-  elsewhere : (sign inside i && not x) ≡ (sign inside i && not y)
-  elsewhere = ap (λ b. sign inside i && not b) h
+  elsewhere : (sign f i && not x) ≡ (sign g i && not y)
+  elsewhere = ap₂ (λ f b. sign f i && not b) hf hx
+
+flags-of-requires : tie.Need-flags-of-requires
+flags-of-requires c κs = search needs
 
 on-line-requires : tie.Need-on-line-requires
 on-line-requires c κs = search needs
@@ -76,7 +79,7 @@ returns c =
     let b6 = b5 .before in
     let b7 = b6 .before in
     let b8 = b7 .before in
-    let k = b8 .before .args .t2 in
+    let k = b8 .before .flags-of .ensures in
     let x = b8 .on-line .ensures in
     let y = b7 .on-line2 .ensures in
     let z = b6 .on-line3 .ensures in
@@ -85,12 +88,13 @@ returns c =
     (next 3 (b2 .push4 .ensures)
     (next 5 (b3 .push3 .ensures)
     (next 4 (b4 .push2 .ensures)
-    (next 3 (b5 .push .ensures) refl (here k 0 x)) (here k 1 y)) (here k 2 z)) (elsewhere k 0 x)) (elsewhere k 1 y)) (elsewhere k 2 z)
+    (next 3 (b5 .push .ensures) refl (here 0 k x)) (here 1 k y)) (here 2 k z)) (elsewhere 0 k x)) (elsewhere 1 k y)) (elsewhere 2 k z)
 
 pub corners-spec : {M : Type 1} → statement M
 corners-spec =
     tie.close
     (tie.spec
+    flags-of-requires
     on-line-requires
     on-line-requires-2
     on-line-requires-3

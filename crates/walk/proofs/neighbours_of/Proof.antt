@@ -14,6 +14,9 @@ corner-on-requires-2 c κs = search needs
 corner-on-requires-3 : tie.Need-corner-on-requires-3
 corner-on-requires-3 c κs = search needs
 
+flags-of-requires : tie.Need-flags-of-requires
+flags-of-requires c κs = search needs
+
 array-read-x : tie.Need-array-read-x
 array-read-x c = search needs
 
@@ -22,12 +25,6 @@ array-read-x-2 c = search needs
 
 array-read-x-3 : tie.Need-array-read-x-3
 array-read-x-3 c = search needs
-
-array-read-x-4 : tie.Need-array-read-x-4
-array-read-x-4 c = search needs
-
-array-read-x-5 : tie.Need-array-read-x-5
-array-read-x-5 c = search needs
 
 array-read-y : tie.Need-array-read-y
 array-read-y c = search needs
@@ -38,12 +35,6 @@ array-read-y-2 c = search needs
 array-read-y-3 : tie.Need-array-read-y-3
 array-read-y-3 c = search needs
 
-array-read-y-4 : tie.Need-array-read-y-4
-array-read-y-4 c = search needs
-
-array-read-y-5 : tie.Need-array-read-y-5
-array-read-y-5 c = search needs
-
 array-read-w : tie.Need-array-read-w
 array-read-w c = search needs
 
@@ -53,15 +44,9 @@ array-read-w-2 c = search needs
 array-read-w-3 : tie.Need-array-read-w-3
 array-read-w-3 c = search needs
 
-array-read-w-4 : tie.Need-array-read-w-4
-array-read-w-4 c = search needs
-
-array-read-w-5 : tie.Need-array-read-w-5
-array-read-w-5 c = search needs
-
 returns : tie.Need-returns
 unfolding neighboursOf
-returns c = rw (c .corner-on3 .ensures .0, c .before .corner-on2 .ensures .0, c .before .before .corner-on .ensures .0) refl
+returns c = rw (c .flags-of .ensures, c .before .corner-on3 .ensures .0, c .before .before .corner-on2 .ensures .0, c .before .before .before .corner-on .ensures .0) refl
 
 pub neighbours-of-spec : {M : Type 1} → statement M
 neighbours-of-spec =
@@ -70,19 +55,14 @@ neighbours-of-spec =
     corner-on-requires
     corner-on-requires-2
     corner-on-requires-3
+    flags-of-requires
     array-read-x
     array-read-x-2
     array-read-x-3
-    array-read-x-4
-    array-read-x-5
     array-read-y
     array-read-y-2
     array-read-y-3
-    array-read-y-4
-    array-read-y-5
     array-read-w
     array-read-w-2
     array-read-w-3
-    array-read-w-4
-    array-read-w-5
     returns)

@@ -1,6 +1,6 @@
 -- One place of the ring, looked up.
 use mathlib.Core.Path.{ap}
-use Rattle.routine.proofs.Decoded.{looked-up}
+use Rattle.routine.proofs.Decoded.{looked-up-alone}
 use borrow.Author.Needs.{needs}
 use Rattle.routine.proofs.spots.corner_in.Statement.{statement}
 use Rattle.routine.proofs.spots.corner_in.Tie as tie
@@ -29,14 +29,11 @@ mul-q c = search needs
 array-copy-out-q : tie.Need-array-copy-out-q
 array-copy-out-q c = search needs
 
-mul-spot-of : tie.Need-mul-spot-of
-mul-spot-of c = search needs
+signs-of-requires : tie.Need-signs-of-requires
+signs-of-requires c κs = search needs
 
-index-1-spot-of : tie.Need-index-1-spot-of
-index-1-spot-of c = search needs
-
-index-2-spot-of : tie.Need-index-2-spot-of
-index-2-spot-of c = search needs
+array-read-spot-of : tie.Need-array-read-spot-of
+array-read-spot-of c = search needs
 
 spot-of-requires : tie.Need-spot-of-requires
 spot-of-requires c κs = search needs
@@ -44,12 +41,13 @@ spot-of-requires c κs = search needs
 returns : tie.Need-returns
 returns c =
     let b1 = c .before in
-    let b5 = b1 .before .before .before .before in
+    let b2 = b1 .before in
+    let b5 = b2 .before .before .before in
     let b6 = b5 .before in
     let b7 = b6 .before in
     let b8 = b7 .before in
     let g = b8 .before .before .args in
-    ap (λ s. s .corner) (looked-up _ (g .t2) (g .t3) _ _ _ _ _ (b8 .edge-in .ensures .0) (b7 .line-in .ensures .0) (b6 .end-of .ensures .0) (b5 .end-of2 .ensures .0) (b1 .spot-of .ensures))
+    ap (λ s. s .corner) (looked-up-alone _ (g .t2) _ _ _ _ _ _ (b8 .edge-in .ensures .0) (b7 .line-in .ensures .0) (b6 .end-of .ensures) (b5 .end-of2 .ensures .0) (b2 .signs-of .ensures) (b1 .spot-of .ensures))
 
 pub corner-in-spec : {M : Type 1} → statement M
 corner-in-spec =
@@ -63,8 +61,7 @@ corner-in-spec =
     array-copy-out-p
     mul-q
     array-copy-out-q
-    mul-spot-of
-    index-1-spot-of
-    index-2-spot-of
+    signs-of-requires
+    array-read-spot-of
     spot-of-requires
     returns)
