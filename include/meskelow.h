@@ -1,5 +1,6 @@
 /* Meskelow: the intersection of two triangles and what each corner of it is, whether they overlap, touch or are apart, the reader
- * and the writer of footprint files and the leak list, proved against their rules (docs/RULES.md).
+ * and the writer of footprint files, their recordings as well-known text and the leak list, proved against their rules
+ * (docs/RULES.md).
  *
  * Link target/staticlib/libmeskelow.a, which `rt staticlib meskelow` makes: x86-64 Linux code that calls nothing but the C
  * library's memcpy and memset, allocates nothing, keeps no state and may be called from any number of threads at once. meskelow_leaks
@@ -8,9 +9,9 @@
  * What is proved (docs/PROMISES.md names each theorem): whatever numbers, bytes and lengths are passed, every call ends and
  * returns exactly the answer of the rules, in every bit of every field and of the room; nothing is read or written outside the
  * slices that are lent; nothing changes beyond the first 2n values of the room (of a NaN there it is proved that it is still a
- * NaN) or beyond the bytes of the list or of the file that is written, and nothing at all by a call that is refused or that is
- * lent no room; every file that is written is accepted and has what was given. Not proved: the compiler's back end, memcpy,
- * memset, and the caller.
+ * NaN) or beyond the bytes of the list, the text or the file that is written, and nothing at all by a call that is refused or that
+ * is lent no room; every file that is written is accepted and has what was given; every text reads back as the triangles. Not
+ * proved: the compiler's back end, memcpy, memset, and the caller.
  *
  * What is left to the caller: the lengths are true, so that so many doubles, integers or bytes may be read, and in the room read
  * and written; the room overlaps no values, file or list that is lent with it; nobody writes to what is lent before the call has
@@ -194,11 +195,11 @@ enum { /* refusals.tsv: written */
                                      * 65,536 bytes */
 };
 
-typedef struct {
-    uint32_t number;   /* 0: an answer. Else one of 13 to 18 above, or 19, and both other fields are zero */
-    uint32_t place;    /* 0, also of a refusal: there is no file yet to have a place in */
-    size_t length;     /* of an answer, the file's bytes, at the front of the room: 24 for each triangle, 12 for each recording and
-                        * 12 for the trailer */
+typedef struct {       /* of what was to be written to a room: */
+    uint32_t number;   /* 0: an answer. Else a refusal, and the length is zero */
+    uint32_t place;    /* of meskelow_write 0, also of a refusal: there is no file yet to have a place in; of meskelow_wkt the file's
+                        * own, or 0 */
+    size_t length;     /* of an answer, how many bytes were written, at the front of the room; no NUL stands behind them */
 } meskelow_written;
 
 /* Writes a footprint file to the front of the room, and leaves the rest of the room as it is. ids, counts and sets have an entry
@@ -229,6 +230,30 @@ typedef struct {
 meskelow_written meskelow_write(const uint32_t *ids, size_t ids_len, const uint32_t *counts, size_t counts_len,
                                 const uint8_t *sets, size_t sets_len, const int32_t *numbers, size_t numbers_len,
                                 uint8_t *room, size_t room_len);
+
+enum {
+    MESKELOW_TEXT_ROOM = 256545 /* bytes, which hold every recording's well-known text */
+};
+
+enum { /* refusals.tsv: text */
+    MESKELOW_REFUSED_TEXT_ROOM = 20, /* the file is good and has a recording with this id, but the room is shorter than its
+                                      * whole text */
+    MESKELOW_REFUSED_NO_ID = 21      /* the file is good, but no recording has this id */
+};
+
+/* The footprint of a recording as well-known text, which the OGC Simple Features standard defines and chart viewers read, to the
+ * front of the room; the rest of the room is left as it is. The recording is named by its id, not by its number in the table. Its
+ * text is one GEOMETRYCOLLECTION of a POLYGON for each triangle, in the order in which they are stored, with a comma and a space
+ * between; a polygon has one ring, the three vertices as they are stored, in either orientation, and the first again. Numbers are
+ * metres with two decimals, a minus sign before those below zero; zero has none. The recording of the one triangle (0,0), (400,0),
+ * (0,-5), in centimetres, gives
+ *
+ *     GEOMETRYCOLLECTION (POLYGON ((0.00 0.00, 4.00 0.00, 0.00 -0.05, 0.00 0.00)))
+ *
+ * with no line feed behind it. A recording of n triangles needs at most 94 * n + 19 bytes of room. A call is refused, with nothing
+ * written, for the first of these that applies: the file's own refusal, with its place; 21, at 0, also for a room of no bytes; 20, at
+ * 0, which does not tell the length that is needed. */
+meskelow_written meskelow_wkt(const uint8_t *file, size_t file_len, uint32_t id, uint8_t *room, size_t room_len);
 
 enum {
     MESKELOW_LIST_ROOM = 65536 /* bytes, which hold every list */

@@ -21,6 +21,8 @@
     with open("kept.footprint", "wb") as stream:
         stream.write(meskelow.write(kept))
 
+    print(meskelow.wkt(file, found.leaks[0].test))  # for a viewer: GEOMETRYCOLLECTION (POLYGON ((0.00 0.00, 4.00 0.00, ...
+
 What the rules refuse is raised as `Refused`, a ValueError that carries their number and place. So whatever a function
 returns is an answer.
 
@@ -80,6 +82,8 @@ REFUSED_SAME_ID = 16
 REFUSED_OUT_OF_RANGE = 17
 REFUSED_NO_AREA = 18
 REFUSED_FILE_ROOM = 19
+REFUSED_TEXT_ROOM = 20
+REFUSED_NO_ID = 21
 
 Bytes = Union[bytes, bytearray, memoryview]  # or whatever else has a buffer
 Triangle = Sequence[Sequence[float]]  # three (x, y)
@@ -87,13 +91,15 @@ WholeTriangle = Sequence[Sequence[SupportsIndex]]  # the same in whole centimetr
 Flags = Tuple[bool, bool, bool]
 
 _LEAK = re.compile("test ([0-9]+) train ([0-9]+) pairs ([0-9]+)\n")
+_LONGEST_TEXT = 256545  # bytes: 94 for each of 2,729 triangles, with the comma and the space before it, and 19
 
 
 class Refused(ValueError):
     """There is no answer. `number` is the rules' refusal, one of the numbers above: 1 to 5 of two triangles, 6 of a corner that their
-    ring does not have, 11 to 18 of a file, 10 of a recording that a good file does not have, 13 to 19 of recordings that are to be
-    written. (7 does not occur: a list gets all the room that it can need.) `place` is the byte offset in the file that the refusal
-    reports, or 0; of triangles, corners and what is to be written it is 0. The text has the words of refusals.tsv."""
+    ring does not have, 11 to 18 of a file, 10 of a recording that a good file does not have, 21 of an id that it does not have, 13 to
+    19 of recordings that are to be written. (7 and 20 do not occur: a list and a text get all the room that they can need.) `place`
+    is the byte offset in the file that the refusal reports, or 0; of triangles, corners and what is to be written it is 0. The text
+    has the words of refusals.tsv."""
 
     def __init__(self, number: int, place: int = 0) -> None:
         super().__init__(number, place)
@@ -299,7 +305,7 @@ def write(recordings: Iterable[Draft]) -> bytes:
     ids, counts, sets, coordinates = array.array("I"), array.array("I"), bytearray(), array.array("i")
     whole = True
     for draft in recordings:
-        ids.append(_id_of(draft))
+        ids.append(_id(draft.id))
         sets.append(_set_of(draft))
         count = 0
         for triangle in draft.triangles:
@@ -330,6 +336,20 @@ def leaks(file: Bytes) -> LeakList:
     if text != f"leaks {got.leaks}\n{lines}touching {got.touching}\n" or len(found) != got.leaks:
         raise LibraryError("the library writes other lists than this module reads; are both of one version?")
     return LeakList(found, text, got.touching, got.tested)
+
+
+def wkt(file: Bytes, id: SupportsIndex) -> str:
+    """The recording with this id as well-known text, which viewers of maps read: a collection with a polygon for each triangle, in
+    the file's order, in metres with two decimals. Each polygon is a ring of four points, of which the last is the first again, and
+    the three are as they are stored: a ring may run either way round. No line feed stands behind the text. An id is a whole number as
+    for `write`: True is 1, 1.0 is a TypeError, and one that is not from 0 to 2^32 - 1 an OverflowError, whatever the file is. Raises
+    `Refused`, 11 to 18, or then 21 for an id that no recording of the file has."""
+    number = _id(id)
+    lent = _lent(file)
+    room = ctypes.create_string_buffer(min(94 * (len(lent) // 24) + 19, _LONGEST_TEXT))
+    got = _library().meskelow_wkt(lent, len(lent), number, room, len(room))
+    _raise_if_refused(got.number, got.place)
+    return room.raw[: got.length].decode("ascii")
 
 
 def build() -> None:
@@ -410,6 +430,7 @@ _FUNCTIONS = {
         [word for pointer in (_U32S, _U32S, _U8S, _I32S, ctypes.c_char_p) for word in (pointer, ctypes.c_size_t)],
     ),
     "meskelow_leaks": (_List, [ctypes.c_char_p, ctypes.c_size_t, ctypes.c_char_p, ctypes.c_size_t]),
+    "meskelow_wkt": (_Written, [ctypes.c_char_p, ctypes.c_size_t, ctypes.c_uint32, ctypes.c_char_p, ctypes.c_size_t]),
 }
 
 
@@ -464,9 +485,9 @@ def _corner_at(values: ctypes.Array[ctypes.c_double], place: int) -> Corner:
     return (VertexOfU, CornerOfV)[got.kind](got.which, got.x, got.y)
 
 
-def _id_of(draft: Draft) -> int:
-    identity = operator.index(draft.id)
-    if not 0 <= identity < 2**32:
+def _id(value: SupportsIndex) -> int:
+    identity = operator.index(value)
+    if not 0 <= identity < 2**32:  # ctypes would cut it to its lowest 32 bits
         raise OverflowError("an id must be from 0 to 4,294,967,295")
     return identity
 

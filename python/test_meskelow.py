@@ -1,6 +1,6 @@
 """Tests of meskelow.py with the library. What is expected was worked out by hand: the twelve cases and the example in docs/RULES.md
 and README.md. The night's list and an area that rounding makes are the second program's. Files that are written must have the bytes
-that `footprint` packs."""
+that `footprint` packs, and well-known texts those that `text_of` makes in another way."""
 
 import array
 import contextlib
@@ -937,6 +937,208 @@ class Writing(Case):
         self.assertEqual(meskelow.leaks(file), (((9, 7, 2),), "leaks 1\ntest 9 train 7 pairs 2\ntouching 1\n", 1, 6))
 
 
+def metres(z):
+    """Whole centimetres as metres with two decimals, by Python's own formatting of the two parts."""
+    whole, rest = divmod(abs(z), 100)
+    return f"{'-' * (z < 0)}{whole:d}.{rest:02d}"
+
+
+def text_of(triangles):
+    """The well-known text of a recording with these triangles."""
+    rings = [", ".join(f"{metres(x)} {metres(y)}" for x, y in (*triangle, triangle[0])) for triangle in triangles]
+    return f"GEOMETRYCOLLECTION ({', '.join(f'POLYGON (({ring}))' for ring in rings)})"
+
+
+class Texts(Case):
+    def test_one_triangle(self):
+        text = meskelow.wkt(footprint((7, 0, [[(0, 0), (400, 0), (0, -5)]])), 7)
+        self.assertIs(type(text), str)
+        self.assertEqual(text, "GEOMETRYCOLLECTION (POLYGON ((0.00 0.00, 4.00 0.00, 0.00 -0.05, 0.00 0.00)))")
+
+    def test_two_triangles(self):
+        """In the order in which they are stored, as their vertices are, whichever way round."""
+        expected = (
+            "GEOMETRYCOLLECTION (POLYGON ((0.00 0.00, 0.04 0.00, 0.00 0.04, 0.00 0.00)), "
+            "POLYGON ((0.00 0.00, 0.00 0.04, 0.04 0.00, 0.00 0.00)))"
+        )
+        self.assertEqual(meskelow.wkt(footprint((7, 0, [V, TURNED_OVER])), 7), expected)
+        expected = (
+            "GEOMETRYCOLLECTION (POLYGON ((0.00 0.00, 0.00 0.04, 0.04 0.00, 0.00 0.00)), "
+            "POLYGON ((0.00 0.00, 0.04 0.00, 0.00 0.04, 0.00 0.00)))"
+        )
+        self.assertEqual(meskelow.wkt(footprint((7, 0, [TURNED_OVER, V])), 7), expected)
+
+    def test_numbers(self):
+        """At every change of the sign and of the width, in each of the six places. Only a number below zero has a minus."""
+        for z, text in [
+            (-1000000, "-10000.00"),
+            (-999999, "-9999.99"),
+            (-100000, "-1000.00"),
+            (-1000, "-10.00"),
+            (-999, "-9.99"),
+            (-101, "-1.01"),
+            (-100, "-1.00"),
+            (-99, "-0.99"),
+            (-10, "-0.10"),
+            (-9, "-0.09"),
+            (-5, "-0.05"),
+            (-1, "-0.01"),
+            (0, "0.00"),
+            (1, "0.01"),
+            (5, "0.05"),
+            (9, "0.09"),
+            (10, "0.10"),
+            (99, "0.99"),
+            (100, "1.00"),
+            (101, "1.01"),
+            (999, "9.99"),
+            (1000, "10.00"),
+            (100000, "1000.00"),
+            (999999, "9999.99"),
+            (1000000, "10000.00"),
+        ]:
+            for place in range(6):
+                numbers = [(30, "0.30"), (-20, "-0.20"), (40, "0.40"), (700, "7.00"), (-60, "-0.60"), (-8000, "-80.00")]
+                numbers[place] = z, text
+                triangle = [(numbers[k][0], numbers[k + 1][0]) for k in (0, 2, 4)]
+                points = [f"{numbers[k][1]} {numbers[k + 1][1]}" for k in (0, 2, 4, 0)]
+                with self.subTest(z=z, place=place):
+                    got = meskelow.wkt(footprint((7, 0, [triangle])), 7)
+                    self.assertEqual(got, f"GEOMETRYCOLLECTION (POLYGON (({', '.join(points)})))")
+
+    def test_the_recording_with_the_id(self):
+        """Not the one at a place; of any set; also the smallest and the largest id."""
+        texts = {
+            1: "GEOMETRYCOLLECTION (POLYGON ((0.00 0.00, 0.04 0.00, 0.00 0.04, 0.00 0.00)))",
+            0: "GEOMETRYCOLLECTION (POLYGON ((0.01 0.01, -0.03 0.01, 0.01 -0.03, 0.01 0.01)))",
+            2**32 - 1: "GEOMETRYCOLLECTION (POLYGON ((0.00 0.00, 0.04 0.00, 0.00 -0.04, 0.00 0.00)))",
+        }
+        file = footprint((1, 0, [V]), (0, 1, [D]), (2**32 - 1, 2, [F]))
+        for identity, text in texts.items():
+            self.assertEqual(meskelow.wkt(file, identity), text)
+        for identity in (2, 3, 256, 257, 2**31, 2**31 + 1, 2**32 - 2):
+            with self.subTest(identity=identity), self.refused(21, 0):
+                meskelow.wkt(file, identity)
+
+    def test_refusals(self):
+        """The file's own comes first, with its place, whether it seems to have the id or not."""
+        for file, number, place in [
+            (b"", 11, 0),
+            (bytes(65537), 11, 0),
+            (LEAK[:60], 12, 0),
+            (bytes(65536), 12, 0),
+            (changed(76, 3), 13, 72),
+            (changed(70, 3), 14, 60),
+            (changed(68, 2), 15, 48),
+            (changed(60, 7), 16, 60),
+            (changed(27, 0x80), 17, 24),
+            (LEAK[:8] + bytes(8) + LEAK[16:], 18, 0),
+        ]:
+            for identity in (7, 9, 8, 0, 2**32 - 1):
+                with self.subTest(number=number, identity=identity), self.refused(number, place):
+                    meskelow.wkt(file, identity)
+        for file, identity in [(EMPTY, 0), (EMPTY, 7), (LEAK, 8), (LEAK, 0), (LEAK, 7 + 2**16)]:
+            with self.subTest(identity=identity), self.refused(meskelow.REFUSED_NO_ID, 0):
+                meskelow.wkt(file, identity)
+        self.assertEqual((meskelow.REFUSED_TEXT_ROOM, meskelow.REFUSED_NO_ID), (20, 21))
+
+    def test_kinds_of_ids(self):
+        file = footprint((1, 1, [V]))
+        for identity in (1, True, Whole(1)):
+            self.assertEqual(meskelow.wkt(file, identity), text_of([V]))
+        for identity in (1.0, math.nan, "1", b"1", None, 1j, Scalar(1), fractions.Fraction(1), decimal.Decimal(1), [1]):
+            for lent in (file, b""):
+                with self.subTest(identity=identity), self.assertRaises(TypeError):
+                    meskelow.wkt(lent, identity)
+        for identity in (-1, 2**32, 2**32 + 1, 2**64, 2**64 + 1, -(2**32) + 1, -(2**64), Whole(-1), 10**5000):
+            for lent in (file, b""):
+                with self.assertRaises(OverflowError) as caught:
+                    meskelow.wkt(lent, identity)
+                self.assertIn("from 0 to 4,294,967,295", str(caught.exception))
+
+    def test_kinds_of_bytes(self):
+        twice = bytes(b for c in LEAK for b in (c, 1))
+        expected = "GEOMETRYCOLLECTION (POLYGON ((0.01 0.01, -0.03 0.01, 0.01 -0.03, 0.01 0.01)))"
+        for file in (LEAK, bytearray(LEAK), memoryview(LEAK), memoryview(twice)[::2], array.array("i", LEAK)):
+            self.assertEqual(meskelow.wkt(file, 9), expected)
+        for file in ("leak.footprint", EXAMPLES / "leak.footprint", 84, list(LEAK), None):
+            with self.assertRaises(TypeError):
+                meskelow.wkt(file, 9)
+
+    def test_longest(self):
+        """The room that is lent is enough, also where no file can have a longer text: six numbers of nine characters have no area."""
+        widest = [(-1000000, -1000000), (-1000000, -999999), (-999999, -1000000)]
+        for count in (1, 2, 3, 1000, 2728, 2729):
+            text = meskelow.wkt(footprint((7, 1, [widest] * count)), 7)
+            self.assertEqual((len(text), text), (94 * count + 19, text_of([widest] * count)))
+        self.assertEqual(len(text), 256545)
+        file = footprint(*((i, 0, [widest] * (42 + (i < 10))) for i in range(64)))
+        for identity in (0, 9, 10, 63):
+            self.assertEqual(meskelow.wkt(file, identity), text_of([widest] * (42 + (identity < 10))))
+
+    def test_rooms(self):
+        """The library writes at the front of the room and nowhere else, or nothing: 20 if the text is a byte longer than the room."""
+        ask = meskelow._library().meskelow_wkt
+        text = b"GEOMETRYCOLLECTION (POLYGON ((0.00 0.00, 0.04 0.00, 0.00 0.04, 0.00 0.00)))"
+        for length in range(len(text)):
+            room = ctypes.create_string_buffer(b"#" * 100, 100)
+            got = ask(LEAK, 84, 7, room, length)
+            self.assertEqual((got.number, got.place, got.length, room.raw), (meskelow.REFUSED_TEXT_ROOM, 0, 0, b"#" * 100))
+        for length in (len(text), len(text) + 1, 100):
+            room = ctypes.create_string_buffer(b"#" * 100, 100)
+            got = ask(LEAK, 84, 7, room, length)
+            self.assertEqual((got.number, got.place, got.length), (0, 0, len(text)))
+            self.assertEqual(room.raw, text + b"#" * (100 - len(text)))
+        for file, identity, number, place in [(LEAK, 8, 21, 0), (LEAK[:60], 7, 12, 0), (changed(76, 3), 7, 13, 72)]:
+            room = ctypes.create_string_buffer(b"#" * 100, 100)
+            got = ask(file, len(file), identity, room, 0)
+            self.assertEqual((got.number, got.place, got.length, room.raw), (number, place, 0, b"#" * 100))
+        got = ask(LEAK, 84, 7, None, 0)
+        self.assertEqual((got.number, got.place, got.length), (20, 0, 0))
+
+    def test_examples(self):
+        for name in ("leak", "night", "clean", "neighbours"):
+            file = (EXAMPLES / f"{name}.footprint").read_bytes()
+            for recording in meskelow.recordings(file):
+                self.assertEqual(meskelow.wkt(file, recording.id), text_of(recording.triangles))
+
+    def test_random_files(self):
+        source = random.Random(12)
+        grids = [
+            lambda: source.choice((-1000000, -100, -99, -5, -1, 0, 1, 5, 99, 100, 1000000)),
+            lambda: source.randint(-200, 200),
+            lambda: source.randint(-1000000, 1000000),
+            lambda: source.choice((-1, 1)) * min(10 ** source.randint(0, 6) + source.randint(-1, 1), 1000000),
+        ]
+        written = 0
+        for _ in range(300):
+            drafts = []
+            for identity in source.sample(range(2**32), source.randint(1, 5)):
+                triangles = []
+                while len(triangles) < source.randint(1, 6):
+                    draw = source.choice(grids)
+                    p, q, r = triangle = [(draw(), draw()) for _ in range(3)]
+                    if cross(less(q, p), less(r, p)) != 0:
+                        triangles.append(triangle)
+                drafts.append((identity, source.randint(0, 2), triangles))
+            file = footprint(*drafts)
+            for identity, _, triangles in drafts:
+                self.assertEqual(meskelow.wkt(file, identity), text_of(triangles))
+                written += 1
+        self.assertGreater(written, 500)
+
+    def test_threads(self):
+        night = (EXAMPLES / "night.footprint").read_bytes()
+        expected = {r.id: text_of(r.triangles) for r in meskelow.recordings(night)}
+        texts = []
+        threads = [threading.Thread(target=lambda: texts.append({i: meskelow.wkt(night, i) for i in expected})) for _ in range(8)]
+        for thread in threads:
+            thread.start()
+        for thread in threads:
+            thread.join()
+        self.assertEqual(texts, [expected] * 8)
+
+
 @unittest.skipIf(numpy is None, "there is no numpy here")
 class Numpy(Case):
     def test_triangles(self):
@@ -991,6 +1193,7 @@ class Numpy(Case):
         mapped = numpy.memmap(EXAMPLES / "leak.footprint", mode="r")
         for lent in (file, file.view("<i4"), file.reshape(7, 12), numpy.repeat(file, 2)[::2], mapped):
             self.assertEqual(meskelow.leaks(lent).text, LIST)
+            self.assertEqual(meskelow.wkt(lent, 7), text_of([V]))
         with self.refused(12, 0):
             meskelow.check(file[:60])
 
@@ -1013,7 +1216,10 @@ class Numpy(Case):
         for kind in (numpy.int64, numpy.uint8, numpy.int32):
             self.assertEqual(meskelow.recording(LEAK, kind(1)).id, 9)
             self.assertEqual(meskelow.corner_at(D, V, kind(1)), Crossing(0, 0, 0.25, 0, 1))
+            self.assertEqual(meskelow.wkt(LEAK, kind(9)), text_of([D]))
         for k in (numpy.float64(1), numpy.float32(1), numpy.nan):
+            with self.assertRaises(TypeError):
+                meskelow.wkt(LEAK, k)
             with self.assertRaises(TypeError):
                 meskelow.recording(LEAK, k)
             with self.assertRaises(TypeError):
@@ -1068,6 +1274,7 @@ class Errors(Case):
             self.says(text, meskelow.recording, LEAK, 0)
             self.says(text, meskelow.write, [])
             self.says(text, meskelow.leaks, LEAK)
+            self.says(text, meskelow.wkt, LEAK, 7)
 
     def test_no_library(self):
         self.put("LIBRARY", pathlib.Path("/nowhere/libmeskelow.so"))

@@ -3,8 +3,9 @@
 use std::env;
 use std::path::PathBuf;
 
-/// Those that make cases are not among them: they must build where there is no library.
-const CALLERS: [&str; 6] = ["compare", "compare_files", "compare_leaks", "compare_written", "bench", "loop"];
+/// Those that make cases or files are not among them: they must build where there is no library.
+const CALLERS: [&str; 7] =
+    ["compare", "compare_files", "compare_leaks", "compare_written", "compare_wkt", "bench", "loop"];
 
 fn main() {
     let package =

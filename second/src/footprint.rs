@@ -112,6 +112,12 @@ pub fn part(file: &[u8], k: usize) -> &[u8] {
     }
 }
 
+/// The same of the recording that has the id; None where no recording of a good file has it.
+pub fn part_with(file: &[u8], id: u32) -> Result<Option<&[u8]>, Refused> {
+    let mut entries = table_of(file)?.chunks_exact(ENTRY);
+    Ok(entries.find(|entry| stored::id_of(entry) == id).map(|entry| Line::read(entry).part(file)))
+}
+
 /// The whole table of a good file, in its order.
 pub fn lines_of(file: &[u8]) -> Result<Vec<Line>, Refused> {
     Ok(table_of(file)?.chunks_exact(ENTRY).map(Line::read).collect())

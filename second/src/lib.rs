@@ -1,5 +1,5 @@
-//! The rules for triangles, their corners, pair decisions, footprint files, leak lists and the writing of
-//! files, written once more and apart from the proved crates, with inputs to compare the two by.
+//! The rules for triangles, their corners, pair decisions, footprint files, leak lists, the writing of files
+//! and well-known text, written once more and apart from the proved crates, with inputs to compare the two by.
 
 pub mod boxes;
 pub mod case;
@@ -19,6 +19,8 @@ pub mod pages;
 pub mod random;
 pub mod table;
 pub mod tally;
+pub mod texts;
 pub mod triangles;
+pub mod wkt;
 pub mod workloads;
 pub mod writer;

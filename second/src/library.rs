@@ -39,6 +39,7 @@ extern "C" {
         room: *mut u8,
         room_len: usize,
     ) -> Written;
+    fn meskelow_wkt(file: *const u8, file_len: usize, id: u32, room: *mut u8, room_len: usize) -> Written;
 }
 
 #[inline]
@@ -146,4 +147,14 @@ pub unsafe fn write_at(
     room_len: usize,
 ) -> Written {
     meskelow_write(ids.0, ids.1, counts.0, counts.1, sets.0, sets.1, numbers.0, numbers.1, room, room_len)
+}
+
+pub fn wkt(file: &[u8], id: u32, room: &mut [u8]) -> Written {
+    unsafe { meskelow_wkt(file.as_ptr(), file.len(), id, room.as_mut_ptr(), room.len()) }
+}
+
+/// # Safety
+/// As for `leaks_at`.
+pub unsafe fn wkt_at(file: *const u8, file_len: usize, id: u32, room: *mut u8, room_len: usize) -> Written {
+    meskelow_wkt(file, file_len, id, room, room_len)
 }

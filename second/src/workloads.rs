@@ -1,6 +1,7 @@
 //! Pairs to measure time with, in whole centimetres as a footprint file has them, and such files to read, to
-//! write and to list the leaks of.
+//! write, to list the leaks of and to show as text.
 
+pub mod texts;
 pub mod tracks;
 
 use crate::case::{point, Pair};

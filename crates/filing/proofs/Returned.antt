@@ -9,6 +9,7 @@ use lib.Dec.{eqb}
 use lib.ListN.{length, take}
 use borrow.Author.Tests.{eq-eqb, ne-eqb, eqb-true, eqb-false}
 use Rattle.text.specs.Room.{laid, WholeOrNothing}
+use Rattle.text.specs.Saying.{writtenIn}
 use Rattle.text.specs.declared.Written.{Written}
 use Rattle.text.proofs.Room.{put-front, whole-or-nothing}
 use Rattle.layout.proofs.Accepted.{accepted-exactly-if}
@@ -16,7 +17,7 @@ use Rattle.filing.specs.Given.{Given}
 use Rattle.filing.specs.File.{fileLength, fileOf}
 use Rattle.filing.specs.Refusals.{Row, numberOf, refusal}
 use Rattle.filing.specs.Rows.{Applies, First}
-use Rattle.filing.specs.Written.{notWritten, fileIn, written}
+use Rattle.filing.specs.Written.{notWritten, written}
 use Rattle.filing.specs.Taken.{takenFrom}
 use Rattle.filing.specs.Promise.{NoSecondWrite, WriteDemand1, WriteReturned, SameRecordings, WrittenIsAccepted, VeryBytes}
 use Rattle.filing.proofs.Order.{in-table}
@@ -34,7 +35,7 @@ module _ (g : Given) (room : List ℕ) where
   unfolding written
   is-refused h = rw (ne-eqb (refusal g (length room)) 0 h) refl
 
-  pub is-written : refusal g (length room) ≡ 0 → written g room ≡ fileIn room (fileOf g)
+  pub is-written : refusal g (length room) ≡ 0 → written g room ≡ writtenIn room (fileOf g)
   unfolding written
   is-written z = rw (eq-eqb (refusal g (length room)) 0 z) refl
 

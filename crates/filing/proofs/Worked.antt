@@ -1,6 +1,6 @@
 -- The lists worked by hand come out so: one computed test over them, and what it says of each. Assumes nothing.
 use Prim.Native.Nat.{ℕ}
-use mathlib.Core.Path.{_≡_, refl}
+use mathlib.Core.Path.{refl}
 use mathlib.Core.Bool.{Bool, _&&_}
 use mathlib.Core.List.{List, List·Memᴰ}
 use lib.Dec.{T, eqb, eqb→eq}
@@ -8,14 +8,11 @@ use lib.ListN.{replicate}
 use lib.Ieee.Fits.{and-l, and-r}
 use Rattle.floats.specs.Lists.{all}
 use Rattle.floats.proofs.Lists.{all-at, sameList, same-list}
-use Rattle.text.specs.declared.Written.{Written}
+use Rattle.text.proofs.Saying.{sameWritten, same-written}
 use Rattle.filing.specs.Written.{written}
 use Rattle.layout.specs.Recordings.{recordingOf}
 use Rattle.filing.specs.Taken.{listed, takenFrom}
 use Rattle.filing.specs.Worked.{Case, Shown, again, cases, TakenFromExample}
-
-sameWritten : Written → Written → Bool
-sameWritten a b = eqb (a .number) (b .number) && (eqb (a .place) (b .place) && eqb (a .length) (b .length))
 
 sameBytes : List ℕ → List ℕ → Bool
 unfolding sameList
@@ -28,20 +25,6 @@ right c = sameWritten (written (c .given) (replicate (c .room) 46) .result) (c .
 all-right : T (all right cases)
 unfolding all right listed again
 all-right = tt
-
-writtenFrom : ℕ → ℕ → ℕ → Written
-writtenFrom number place length = record { number = number; place = place; length = length }
-
-fields : {n n' p p' l l' : ℕ} → n ≡ n' → p ≡ p' → l ≡ l' → writtenFrom n p l ≡ writtenFrom n' p' l'
-fields n p l = rw (n, p, l) refl
-
-same-written : (a b : Written) → T (sameWritten a b) → a ≡ b
-unfolding sameWritten writtenFrom
-same-written a b t =
-    let rest = and-r (eqb (a .number) (b .number)) (eqb (a .place) (b .place) && eqb (a .length) (b .length)) t in
-    fields (eqb→eq (a .number) (b .number) (and-l (eqb (a .number) (b .number)) (eqb (a .place) (b .place) && eqb (a .length) (b .length)) t))
-    (eqb→eq (a .place) (b .place) (and-l (eqb (a .place) (b .place)) (eqb (a .length) (b .length)) rest))
-    (eqb→eq (a .length) (b .length) (and-r (eqb (a .place) (b .place)) (eqb (a .length) (b .length)) rest))
 
 -- each comes out as it was worked
 pub worked : (c : Case) → List·Memᴰ c cases → Shown c

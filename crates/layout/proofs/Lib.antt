@@ -10,3 +10,4 @@ pub mod Size
 pub mod Cross
 pub mod Stages
 pub mod Worked
+pub mod Fronts

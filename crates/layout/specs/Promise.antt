@@ -71,6 +71,10 @@ pub record FileDemand2 (file : List ℕ) (k : ℕ) (r : Recording) (part : List 
 abbrev pub FileFirst : Type 1
 FileFirst = (A : Type 0) (file : List ℕ) (refusedBy : Verdict → A) (answer : A) → (verdict file .number ≡ 0 → ⊥) → unlessRefused file refusedBy answer ≡ refusedBy (verdict file)
 
+-- and what is answered turns on the first 65,537 bytes: a longer file is refused whatever its bytes are
+abbrev pub FirstBytes : Type 1
+FirstBytes = (A : Type 0) (refusedBy : Verdict → A) (answer : List ℕ → A) (most : ℕ) → 65537 ≤ most → (file : List ℕ) → unlessRefused (take most file) refusedBy (answer (take most file)) ≡ unlessRefused file refusedBy (answer file)
+
 abbrev pub FileReturnedTwo : Type 0
 FileReturnedTwo = (file : List ℕ) (k : ℕ) (r : Recording) (part : List ℕ) → Recorded file k r → Parted file k part → r .number ≡ 0 → FileDemand2 file k r part
 

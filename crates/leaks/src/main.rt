@@ -1,50 +1,20 @@
 // Reads a footprint file on standard input, to its end or one byte more than a file may have, and writes the leak list, or the line that says how the file is refused. Where a read
 // fails the file has not ended: then nothing is written but a line on standard error.
 use input::Got;
-use input::Piece;
+use input::Reply;
 use libc::STDERR_FILENO;
 use libc::STDIN_FILENO;
 use libc::STDOUT_FILENO;
 ghost use mathlib.Core.Path.{_≡_};
-ghost use lib.ListN.{length, take};
+ghost use lib.ListN.{take};
 ghost use Rattle.listing.specs.Listing.{outputOf};
-ghost use Rattle.input.specs.Reading.{Stopped};
-ghost use Rattle.leaks.specs.Answer.{Took, AtFront, outputFor, Replied};
+ghost use Rattle.input.specs.Answer.{AtFront, outputFor, Replied};
 
 // One byte more than a file may have.
 const SPACE: usize = 65537;
 
 // No list has more bytes.
 const ROOM: usize = 65536;
-
-// What was read of the input, and how long the text is that is to be said of it.
-struct Reply {
-    got: Got,
-    n: usize,
-}
-
-fn read_some(fd: i32, part: &mut [u8]) -> Piece
-    ensures { λ r. ⌜ Took (length (now (part .exit))) r ⌝ }
-{
-    let got = libc::read(fd, part);
-    input::piece_of(got, part.len())
-}
-
-// Reads until the space is full, the input ends or a read fails.
-fn read_all(fd: i32, space: &mut [u8]) -> Got
-    ensures { λ r. ⌜ Stopped (length (now (space .exit))) r ⌝ }
-{
-    let mut n: usize = 0;
-    let mut last = Piece::More(0);
-    while n < space.len() {
-        last = read_some(fd, &mut space[n..]);
-        let Piece::More(k) = last else {
-            return Got { n, last };
-        };
-        n = n + k;
-    }
-    Got { n, last }
-}
 
 // What is to be said of a file, at the front of the room, and its length.
 fn output(file: &[u8], room: &mut [u8; ROOM]) -> usize
@@ -55,7 +25,7 @@ fn output(file: &[u8], room: &mut [u8; ROOM]) -> usize
 
 // What is to be said of the input, where so much of it was read into the space: nothing, where a read failed.
 fn answer(g: Got, space: &[u8; SPACE], room: &mut [u8; ROOM]) -> usize
-    ensures { λ r. ⌜ AtFront (outputFor g (now (space .entry))) (now (room .entry)) r (now (room .exit)) ⌝ }
+    ensures { λ r. ⌜ AtFront (outputFor outputOf g (now (space .entry))) (now (room .entry)) r (now (room .exit)) ⌝ }
 {
     let n = g.n;
     if input::is_read(g) {
@@ -66,9 +36,9 @@ fn answer(g: Got, space: &[u8; SPACE], room: &mut [u8; ROOM]) -> usize
 
 // Reads the input into the space, and puts what is to be said of it at the front of the room.
 fn reply_to(fd: i32, space: &mut [u8; SPACE], room: &mut [u8; ROOM]) -> Reply
-    ensures { λ r. ⌜ Replied (now (space .exit)) (now (room .entry)) r (now (room .exit)) ⌝ }
+    ensures { λ r. ⌜ Replied outputOf (now (space .exit)) (now (room .entry)) r (now (room .exit)) ⌝ }
 {
-    let got = read_all(fd, space);
+    let got = input::read_all(fd, space);
     let n = answer(got, space, room);
     Reply { got, n }
 }

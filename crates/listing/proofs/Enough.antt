@@ -1,26 +1,25 @@
 -- The list of a good file has at most 1,024 leak lines of at most 50 bytes, a first line and a closing line, so 65,536 bytes are always enough. Assumes nothing.
-use Prim.Native.Nat.{ℕ, zero, suc, _+_, _-_, _*_, _/_, _^_, _<_, _≤_}
+use Prim.Native.Nat.{ℕ, suc, _+_, _-_, _*_, _<_, _≤_}
 use mathlib.Core.Path.{_≡_, refl, sym, ap, subst}
 use mathlib.Core.Bool.{Bool, true, false, cond, false≢true}
 use mathlib.Core.List.{List, [], _∷_, _++_, map, List·Memᴰ, List·Memᴰ·head as here, List·Memᴰ·tail as there}
 use native.Mathlib.Omega.{arith}
-use native.Mathlib.Nat.{zero-mul, suc-mul, pow-suc, mul-le-mul, mul-le-mul-right}
-use lib.Dec.{T, ltb, leb, leb→le}
-use borrow.Author.Tests.{ltb-true, ltb-false, eqb-true}
+use native.Mathlib.Nat.{zero-mul, suc-mul, mul-le-mul, mul-le-mul-right}
+use lib.Dec.{T, leb, leb→le}
+use borrow.Author.Tests.{eqb-true}
 use lib.ListN.{length, length-append, length-map}
 use Rattle.floats.specs.Lists.{all, filter, count}
 use Rattle.floats.proofs.Lists.{all-at}
 use Rattle.text.specs.Decimal.{decimal}
-use Rattle.text.proofs.Laws.{width-small, width-large}
+use Rattle.text.proofs.Laws.{width-most}
 use Rattle.triangles.specs.Decision.{overlaps}
-use Rattle.layout.specs.Bytes.{u16At, u32At}
+use Rattle.layout.specs.Bytes.{u16At, u32At, Bytes}
 use Rattle.layout.specs.Parts.{countOf, entryFrom, entryPlace, entryAt}
 use Rattle.layout.specs.Layout.{Layout}
 use Rattle.listing.specs.Turns.{upTo, each}
 use Rattle.listing.specs.Pairs.{isTest, isTraining, decisions}
 use Rattle.listing.specs.Leaks.{Leak, tests, trainings, recordingPairs, tallyFor, isLeak, leakPairs, leakOf, leaks, isTouching, touchingPairs, touching}
 use Rattle.listing.specs.Words.{leaksWord, touchingWord, firstLine, leakLine, leakLines, closingLine, textOf, listText}
-use Rattle.layout.specs.Bytes.{Bytes}
 use Rattle.listing.specs.Enough.{AlwaysEnough}
 use Rattle.listing.proofs.Turns.{reached, unmapped}
 use Rattle.listing.proofs.Tallied.{how-many, length-upTo}
@@ -66,15 +65,6 @@ each-most f n (x ∷ xs) h =
     omega (arith, a, b, c, d)
 
 -- ---- how many digits
--- a number below a power of ten has no more digits than that power has zeros
-width-most : (k n : ℕ) → n < 10 ^ suc k → length (decimal n) ≤ suc k
-width-most zero n h = let w = width-small n h in omega (arith, w)
-width-most (suc k) n h = go (ltb n 10) refl (width-most k (n / 10) (let p = pow-suc 10 (suc k) in omega (arith, h, p)))
-  where
-    go : (b : Bool) → ltb n 10 ≡ b → length (decimal (n / 10)) ≤ suc k → length (decimal n) ≤ suc (suc k)
-    go true e tens = let w = width-small n (ltb-true n 10 e) in omega (arith, w)
-    go false e tens = let w = width-large n (ltb-false n 10 e) in omega (arith, w, tens)
-
 -- a number below ten thousand million has at most ten
 pub ten-digits : (n : ℕ) → n < 10000000000 → length (decimal n) ≤ 10
 ten-digits n h = width-most 9 n h

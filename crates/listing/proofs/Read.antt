@@ -1,26 +1,20 @@
 -- The list is read back from its text, and a refusal from its line. Assumes nothing.
-use Prim.Native.Nat.{ℕ, suc, _+_, _-_, _*_, _<_, _≤_}
+use Prim.Native.Nat.{ℕ, suc, _+_, _-_, _*_, _<_}
 use mathlib.Core.Path.{_≡_, refl, sym, ap, _∙_}
 use mathlib.Core.Bool.{true, false}
-use mathlib.Core.List.{List, [], _∷_, _++_, append-assoc, List·Memᴰ, List·Memᴰ·head as here, List·Memᴰ·tail as there}
+use mathlib.Core.List.{List, [], _∷_, _++_, append-assoc, List·Memᴰ·head as here, List·Memᴰ·tail as there}
 use native.Mathlib.Omega.{arith}
 use lib.Dec.{eqb}
-use borrow.Author.Tests.{ne-eqb, le-leb}
+use borrow.Author.Tests.{ne-eqb}
 use lib.ListN.{length, length-append}
 use Rattle.floats.specs.Lists.{count}
 use Rattle.floats.proofs.Lists.{count-append}
 use Rattle.text.specs.Decimal.{decimal, readOn}
-use Rattle.text.proofs.Decimal.{decimals}
+use Rattle.text.proofs.Decimal.{AllDigits, is-digit, decimals}
 use Rattle.listing.specs.Turns.{each}
 use Rattle.listing.specs.Leaks.{Leak, leaks, touching}
 use Rattle.listing.specs.Words.{leaksWord, testWord, trainWord, pairsWord, touchingWord, refusedWord, atWord, feed, countLine, firstLine, leakLine, leakLines, closingLine, textOf, listText, refusedLine}
-use Rattle.listing.specs.Read.{isDigit, numbersBy, numbersIn, feeds, threeOf, ListsReadBack, RefusalsReadBack}
-
-abbrev AllDigits : List ℕ → Type 0
-AllDigits text = (b : ℕ) → List·Memᴰ b text → (48 ≤ b) × (b ≤ 57)
-
-is-digit : (b : ℕ) → 48 ≤ b → b ≤ 57 → isDigit b ≡ true
-is-digit b h k = rw (le-leb 48 b h, le-leb b 57 k) refl
+use Rattle.listing.specs.Read.{numbersBy, numbersIn, feeds, threeOf, ListsReadBack, RefusalsReadBack}
 
 none-before : (m : ℕ) → 0 + m ≡ m
 none-before m = omega arith

@@ -1,20 +1,18 @@
 -- 01, "The leak list", with 02, No. 1, read back: whoever takes the numbers out of the text, from left to right, has the number of leaks, of each leak its two ids and N, and last the number of pairs of recordings that only touch, and nothing else; and between the first line and the closing line there is one for each leak. Definitions and statements.
 use Prim.Native.Nat.{ℕ, _+_, _-_, _*_}
 use mathlib.Core.Path.{_≡_}
-use mathlib.Core.Bool.{Bool, true, false, _&&_, cond}
+use mathlib.Core.Bool.{Bool, true, false, cond}
 use mathlib.Core.List.{List, [], _∷_, _++_}
-use lib.Dec.{eqb, leb}
+use lib.Dec.{eqb}
 use lib.ListN.{length}
 use Rattle.floats.specs.Lists.{count}
+use Rattle.text.specs.Decimal.{isDigit}
 use Rattle.layout.specs.declared.Verdict.{Verdict}
 use Rattle.listing.specs.Turns.{each}
 use Rattle.listing.specs.Leaks.{Leak, leaks, touching}
 use Rattle.listing.specs.Words.{listText, refusedLine}
 
 -- the numbers of a text, one for each run of digits; `n` is what was read of the run that one is in
-abbrev pub isDigit : ℕ → Bool
-isDigit b = leb 48 b && leb b 57
-
 unfoldable pub numbersBy : Bool → ℕ → List ℕ → List ℕ
 numbersBy false n [] = []
 numbersBy true n [] = n ∷ []

@@ -5,6 +5,7 @@ ghost use Rattle.corners.specs.Promise.{CornerPromise};
 ghost use Rattle.layout.specs.Promise.{Checked, Recorded};
 ghost use Rattle.filing.specs.Given.{givenOf};
 ghost use Rattle.filing.specs.Promise.{WritePromise};
+ghost use Rattle.chart.specs.Promise.{ShowPromise};
 ghost use Rattle.listing.specs.Promise.{ListPromise};
 
 // Two triangles, U0x, U0y, .. V2y: the answer, with the ring's corners at the front of the room, or a refusal, with the room as it was.
@@ -59,6 +60,14 @@ pub extern "C" fn meskelow_write(
     ensures { λ r. ⌜ WritePromise (givenOf (now (ids .entry)) (now (counts .entry)) (now (sets .entry)) (now (numbers .entry))) (now (room .entry)) r (now (room .exit)) ⌝ }
 {
     filer::write(ids, counts, sets, numbers, room)
+}
+
+// The well-known text of the recording of a file's bytes that has the id: its length, with the text at the front of the room, or a refusal's number and place with zeros, with the room as it was.
+#[no_mangle]
+pub extern "C" fn meskelow_wkt(file: &[u8], id: u32, room: &mut [u8]) -> text::Written
+    ensures { λ r. ⌜ ShowPromise (now (file .entry)) id (now (room .entry)) r (now (room .exit)) ⌝ }
+{
+    showing::wkt(file, id, room)
 }
 
 // The leak list of a file's bytes: its length, the number of its leaks, that of the pairs of recordings that only touch and that of the triangle pairs given to the triangle rules, with the list at the front of the room, or a refusal's number and place with zeros, with the room as it was.

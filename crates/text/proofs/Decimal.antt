@@ -5,16 +5,19 @@ use mathlib.Core.Bool.{Bool, true, false}
 use mathlib.Core.List.{List, [], _∷_, _++_, List·Memᴰ, List·Memᴰ·head as here, List·Memᴰ·tail as there}
 use native.Mathlib.Omega.{arith}
 use lib.Dec.{ltb}
-use borrow.Author.Tests.{ltb-true, ltb-false}
+use borrow.Author.Tests.{ltb-true, ltb-false, le-leb}
 use lib.ListN.{length, getD, List·getD-append}
-use Rattle.text.specs.Decimal.{digit, decimal, readOn, read, Decimals}
+use Rattle.text.specs.Decimal.{digit, isDigit, decimal, readOn, read, Decimals}
 use Rattle.text.proofs.Laws.{by-tens, under-ten, tens-and-last, width-small, width-large}
 
 abbrev IsDigit : ℕ → Type 0
 IsDigit b = (48 ≤ b) × (b ≤ 57)
 
-abbrev AllDigits : List ℕ → Type 0
+abbrev pub AllDigits : List ℕ → Type 0
 AllDigits text = (b : ℕ) → List·Memᴰ b text → IsDigit b
+
+pub is-digit : (b : ℕ) → 48 ≤ b → b ≤ 57 → isDigit b ≡ true
+is-digit b h k = rw (le-leb 48 b h, le-leb b 57 k) refl
 
 one-digit : (d : ℕ) → d < 10 → AllDigits (digit d ∷ [])
 one-digit d h b (here e) = subst IsDigit (sym e) (omega arith, omega (arith, h))

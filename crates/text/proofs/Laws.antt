@@ -1,10 +1,10 @@
 -- Laws of decimals, and of the loops that put digits and bytes. Assumes nothing.
-use Prim.Native.Nat.{ℕ, zero, suc, _+_, _-_, _/_, _%_, _<_, _≤_}
-use mathlib.Core.Path.{_≡_, refl, ap, ap₂, sym, subst, _∙_}
+use Prim.Native.Nat.{ℕ, zero, suc, _+_, _-_, _/_, _%_, _^_, _<_, _≤_}
+use mathlib.Core.Path.{_≡_, refl, ap, ap₂, sym, _∙_}
 use mathlib.Core.Bool.{Bool, true, false}
 use mathlib.Core.List.{List, [], _∷_, _++_}
 use native.Mathlib.Omega.{arith}
-use native.Mathlib.Nat.{add-zero}
+use native.Mathlib.Nat.{add-zero, pow-suc}
 use native.Mathlib.Numerals.{add-one}
 use lib.ListN.{length, getD, drop, set, length-append}
 use lib.Seq.{sets, set-comm, drop-cons}
@@ -62,6 +62,36 @@ width-small n h = ap length (under-ten n h)
 
 pub width-large : (n : ℕ) → 10 ≤ n → length (decimal n) ≡ length (decimal (n / 10)) + 1
 width-large n h = ap length (tens-and-last n h) ∙ length-append (decimal (n / 10)) (digit (n % 10) ∷ [])
+
+-- a number below a power of ten has no more digits than that power has zeros
+pub width-most : (k n : ℕ) → n < 10 ^ suc k → length (decimal n) ≤ suc k
+width-most zero n h = let w = width-small n h in omega (arith, w)
+width-most (suc k) n h = go (ltb n 10) refl (width-most k (n / 10) (let p = pow-suc 10 (suc k) in omega (arith, h, p)))
+  where
+    go : (b : Bool) → ltb n 10 ≡ b → length (decimal (n / 10)) ≤ suc k → length (decimal n) ≤ suc (suc k)
+    go true e tens = let w = width-small n (ltb-true n 10 e) in omega (arith, w)
+    go false e tens = let w = width-large n (ltb-false n 10 e) in omega (arith, w, tens)
+
+-- and one that is not has more
+width-least : (k n : ℕ) → 10 ^ k ≤ n → suc k ≤ length (decimal n)
+width-least zero n h = go (ltb n 10) refl
+  where
+    go : (b : Bool) → ltb n 10 ≡ b → 1 ≤ length (decimal n)
+    go true e = let w = width-small n (ltb-true n 10 e) in omega (arith, w)
+    go false e = let w = width-large n (ltb-false n 10 e) in omega (arith, w)
+width-least (suc k) n h =
+    let p = pow-suc 10 k in
+    let q = power-some k in
+    let w = width-large n (omega (arith, h, p, q)) in
+    let tens = width-least k (n / 10) (omega (arith, h, p)) in
+    omega (arith, w, tens)
+  where
+    power-some : (k : ℕ) → 1 ≤ 10 ^ k
+    power-some zero = omega arith
+    power-some (suc k) = let p = pow-suc 10 k in let q = power-some k in omega (arith, p, q)
+
+pub width-is : (k n : ℕ) → 10 ^ k ≤ n → n < 10 ^ suc k → length (decimal n) ≡ suc k
+width-is k n h g = let a = width-least k n h in let b = width-most k n g in omega (arith, a, b)
 
 -- ---- the code's digits
 pub digits-none : (n : ℕ) → digits 0 n ≡ []

@@ -1,14 +1,18 @@
 -- 01, "The leak list": numbers are decimal. Definitions and statements.
 use Prim.Native.Nat.{ℕ, zero, suc, _+_, _-_, _*_, _/_, _%_, _<_, _≤_}
 use mathlib.Core.Path.{_≡_}
-use mathlib.Core.Bool.{Bool, true, false}
+use mathlib.Core.Bool.{Bool, true, false, _&&_}
 use mathlib.Core.List.{List, [], _∷_, _++_, List·Memᴰ}
-use lib.Dec.{ltb}
+use lib.Dec.{ltb, leb}
 use lib.ListN.{length, getD}
 
 -- the byte of a digit; 48 is that of 0
 abbrev pub digit : ℕ → ℕ
 digit d = 48 + d
+
+-- a byte is a digit's; 57 is that of 9
+abbrev pub isDigit : ℕ → Bool
+isDigit b = leb 48 b && leb b 57
 
 -- a number under ten is its digit; any other is its tens, put down by `tens`, and then its last digit
 abbrev pub putDown : Bool → (ℕ → List ℕ) → ℕ → List ℕ

@@ -1,3 +1,4 @@
 pub mod Decimal
 pub mod Room
 pub mod Code
+pub mod Saying

@@ -16,18 +16,40 @@ pub struct Written {
 
 // How many digits n has.
 pub fn width(n: u32) -> usize
-    ensures { λ r. ⌜ Measured (decimal n) r × (r ≤ n + 1) ⌝ }
+    ensures { λ r. ⌜ Measured (decimal n) r × (r ≤ n + 1) × (r ≤ 10) ⌝ }
 {
-    let mut k: usize = 1;
-    let mut m = n;
-    while 10 <= m {
-        m = m / 10;
-        k = k + 1;
+    if n < 10 {
+        return 1;
     }
-    k
+    if n < 100 {
+        return 2;
+    }
+    if n < 1000 {
+        return 3;
+    }
+    if n < 10000 {
+        return 4;
+    }
+    if n < 100000 {
+        return 5;
+    }
+    if n < 1000000 {
+        return 6;
+    }
+    if n < 10000000 {
+        return 7;
+    }
+    if n < 100000000 {
+        return 8;
+    }
+    if n < 1000000000 {
+        return 9;
+    }
+    10
 }
 
-fn digit(n: u32) -> u8
+// The byte of the last digit of n.
+pub fn digit(n: u32) -> u8
     ensures { λ r. ⌜ r ≡ digitOf (n % 10) ⌝ }
 {
     48 + (n % 10) as u8

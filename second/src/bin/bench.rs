@@ -1,6 +1,6 @@
 //! Time a pair and time a byte, the library and the second program in turn over the same input.
 //! A pair is given by itself, for an answer or for a corner, or is one of a file's whose leaks are listed; a
-//! byte is one of a file's that is judged or written.
+//! byte is one of a file's that is judged or written, or of a well-known text's.
 
 use std::process::ExitCode;
 use std::time::Instant;
@@ -11,6 +11,8 @@ use second::footprint::{self, Entry, Verdict, MOST_BYTES};
 use second::leaks::{self, List};
 use second::library;
 use second::triangles;
+use second::wkt::wkt;
+use second::workloads::texts::{night, Night, TEXTS};
 use second::workloads::tracks::{file_of_tracks, pairs_of_tracks, DIAGONALS, LEAKS, MOST_TRACKS};
 use second::workloads::{fold, fold_corner, fold_list, fold_verdict, fold_written};
 use second::workloads::{largest_draft, largest_file, pairs, pairs_with_corners, place_of, unforeseen};
@@ -71,6 +73,14 @@ fn main() -> ExitCode {
         return ExitCode::FAILURE;
     }
     measure_write(draft.handed(), file.len());
+    for name in TEXTS {
+        let night = night(name).expect("every named workload exists");
+        if night.everything(library::wkt) != night.everything(wkt) {
+            println!("{name}: the two programs answer differently");
+            return ExitCode::FAILURE;
+        }
+        measure_texts(name, &night);
+    }
     ExitCode::SUCCESS
 }
 
@@ -179,6 +189,12 @@ fn measure_write(handed: Handed, length: usize) {
         || time_writing(handed, length, writer::write),
     );
     print_row(WRITE, length.to_string(), 3, times);
+}
+
+fn measure_texts(name: &str, night: &Night) {
+    let bytes = night.bytes(wkt);
+    let times = in_turn(ROUNDS, || night.time(bytes, library::wkt), || night.time(bytes, wkt));
+    print_row(name, bytes.to_string(), 3, times);
 }
 
 fn percent(part: usize, whole: usize) -> String {

@@ -5,7 +5,7 @@ use std::fmt::Write as _;
 use std::io::{self, Write as _};
 use std::process::ExitCode;
 
-use second::files::worked::{all as all_files, EXAMPLE, SHORTEST};
+use second::files::worked::{all as all_files, too_many_recordings, EXAMPLE, SHORTEST};
 use second::leaks::leaks;
 use second::lists::worked::{all, EXAMPLE_LIST, NOTHING};
 
@@ -63,14 +63,6 @@ fn chosen() -> Vec<Case> {
         add(&file, 0);
     }
     cases
-}
-
-/// 65 empty entries and nothing else wrong, so that the file is short.
-fn too_many_recordings() -> Vec<u8> {
-    let length = 12 * 65 + 12;
-    let mut file = vec![0; length - 12];
-    file.extend([0, 65, length as u32].map(u32::to_le_bytes).concat());
-    file
 }
 
 fn input_line(case: &Case) -> String {

@@ -7,6 +7,8 @@ use second::footprint::{judge, Verdict, MOST_BYTES};
 use second::leaks::{leaks, List};
 use second::library;
 use second::triangles;
+use second::wkt::{wkt, MOST_TEXT};
+use second::workloads::texts::{night, Night, Wkt};
 use second::workloads::tracks::{file_of_tracks, MOST_TRACKS};
 use second::workloads::{fold, fold_corner, fold_list, fold_verdict, fold_written, FILE, WRITE};
 use second::workloads::{
@@ -22,8 +24,10 @@ fn main() -> ExitCode {
         }
         None => {
             eprintln!("usage: loop library|second WORKLOAD COUNT ROUNDS");
-            eprintln!("workloads: random, strips, far, corner-random, corner-strips, file, write, leaks, diagonals,");
-            eprintln!("           crowded-TIMES");
+            eprintln!(
+                "workloads: random, strips, far, corner-random, corner-strips, file, write, wkt, wkt-night,"
+            );
+            eprintln!("           leaks, diagonals, crowded-TIMES");
             ExitCode::from(2)
         }
     }
@@ -41,6 +45,9 @@ fn checksum() -> Option<u64> {
     }
     if workload == WRITE {
         return files(side, count * rounds);
+    }
+    if let Some(night) = night(workload) {
+        return texts(side, &night, count * rounds);
     }
     if let Some(file) = file_of_tracks(workload, count.min(MOST_TRACKS)) {
         return lists(side, &file, rounds);
@@ -78,6 +85,18 @@ fn files(side: &str, count: usize) -> Option<u64> {
     let draft = largest_draft();
     let mut room = [0; MOST_BYTES];
     let sum = (0..count).fold(0, |sum, _| fold_written(sum, write(unforeseen(draft.handed()), &mut room)));
+    Some(room.iter().fold(sum, |sum, byte| sum.rotate_left(7) ^ u64::from(*byte)))
+}
+
+/// Those of all recordings again and again, in the same room, which is looked at itself once.
+fn texts(side: &str, night: &Night, count: usize) -> Option<u64> {
+    let wkt: Wkt = match side {
+        "library" => library::wkt,
+        "second" => wkt,
+        _ => return None,
+    };
+    let mut room = vec![0; MOST_TEXT];
+    let sum = (0..count).fold(0, |sum, _| night.round(sum, wkt, &mut room));
     Some(room.iter().fold(sum, |sum, byte| sum.rotate_left(7) ^ u64::from(*byte)))
 }
 

@@ -11,14 +11,14 @@ pub struct Fill {
 }
 
 impl Fill {
-    fn any(random: &mut Random) -> Fill {
+    pub fn any(random: &mut Random) -> Fill {
         let any = [random.bits() as u8, random.bits() as u8];
         let [start, step] = random.pick(&[[0, 0], [46, 0], [165, 0], [1, 1], any, any]);
         Fill { start, step }
     }
 
     /// Another byte at every place, so that a byte which is not written cannot look right in both.
-    fn turned(self) -> Fill {
+    pub fn turned(self) -> Fill {
         Fill { start: !self.start, step: self.step.wrapping_neg() }
     }
 

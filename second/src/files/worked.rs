@@ -72,6 +72,14 @@ pub fn numbered(recordings: u8) -> Vec<u8> {
     file
 }
 
+/// 65 empty entries and nothing else wrong, so that the file is short.
+pub fn too_many_recordings() -> Vec<u8> {
+    let length = 12 * 65 + 12;
+    let mut file = vec![0; length - 12];
+    file.extend([0, 65, length as u32].map(u32::to_le_bytes).concat());
+    file
+}
+
 fn at_the_trailer() -> Vec<Worked> {
     let extended: Vec<u8> = [&EXAMPLE[..], &[0]].concat();
     vec![

@@ -3,8 +3,8 @@ use mathlib.Core.Path.{sym, subst, _∙_}
 use borrow.Author.Needs.{needs}
 use denote.Ref.{now}
 use Rattle.listing.specs.Listing.{outputOf}
-use Rattle.leaks.specs.Answer.{AtFront}
-use Rattle.leaks.proofs.Fronts.{of-read, of-failed}
+use Rattle.input.specs.Answer.{AtFront}
+use Rattle.input.proofs.Fronts.{of-read, of-failed}
 use Rattle.leaks.proofs.answer.Statement.{statement}
 use Rattle.leaks.proofs.answer.Tie as tie
 
@@ -21,12 +21,12 @@ returns : tie.Need-returns
 returns c =
     let is-read = c .before .before .before .before .before .is-read in
     let g = c .before .before .before .before .before .before .args in
-    of-read (g .g) (now (g .space)) (now (g .room))
+    of-read outputOf (g .g) (now (g .space)) (now (g .room))
     (sym (is-read .ensures) ∙ c .before .before .before .before .if1 .taken)
     (subst (λ f. AtFront (outputOf f) (now (g .room)) (c .output .result) (c .output .last .1 .0)) (c .before .before .front .ensures) (c .output .ensures))
 
 returns-2 : tie.Need-returns-2
-returns-2 c = let g = c .before .before .args in of-failed (g .g) (now (g .space)) (now (g .room)) (sym (c .before .is-read .ensures) ∙ c .if1 .left)
+returns-2 c = let g = c .before .before .args in of-failed outputOf (g .g) (now (g .space)) (now (g .room)) (sym (c .before .is-read .ensures) ∙ c .if1 .left)
 
 pub answer-spec : {M : Type 1} → statement M
 answer-spec =

@@ -2,7 +2,9 @@
 use native.Mathlib.Omega.{arith}
 use borrow.Author.Needs.{needs}
 use denote.Ref.{now}
-use Rattle.leaks.proofs.Fronts.{of-input}
+use Rattle.listing.specs.Listing.{outputOf}
+use Rattle.input.proofs.Fronts.{of-input}
+use Rattle.leaks.proofs.Fronts.{first-of-list}
 use Rattle.leaks.proofs.reply_to.Statement.{statement}
 use Rattle.leaks.proofs.reply_to.Tie as tie
 
@@ -19,7 +21,7 @@ returns c =
     record {
       stopped = read .ensures;
       said = c .answer .ensures;
-      whole = of-input (read .result) (read .last .1 .0) room (omega arith) (read .ensures) (c .answer .ensures);
+      whole = of-input outputOf (read .result) (read .last .1 .0) room first-of-list (omega arith) (read .ensures) (c .answer .ensures);
     }
 
 pub reply-to-spec : {M : Type 1} → statement M

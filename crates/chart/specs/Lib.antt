@@ -1,0 +1,9 @@
+pub mod Numbers
+pub mod Words
+pub mod Recorded
+pub mod Read
+pub mod Stored
+pub mod Showing
+pub mod Promise
+pub mod Enough
+pub mod Worked

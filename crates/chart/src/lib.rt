@@ -1,0 +1,1 @@
+// What the chart viewer reads: a recording's footprint as well-known text.
