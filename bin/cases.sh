@@ -119,7 +119,7 @@ hears_no_environment() { # all or less
     echo 'echo sourced; exit 0' >"$scratch/exits"
     mkdir -p "$scratch/a b"
     for setting in LC_ALL=C.UTF-8 IFS=0123456789 "CDPATH=$scratch:.." "BASH_ENV=$scratch/exits" SHELLOPTS=noclobber:noglob:xtrace:noexec \
-        POSIXLY_CORRECT=1 'BASH_FUNC_cat%%=() { echo leaks 0; echo touching 0; }' 'BASH_FUNC_printf%%=() { :; }' GLOBIGNORE='*' "TMPDIR=$scratch/a b" QEMU_STRACE=1; do
+        POSIXLY_CORRECT=1 'BASH_FUNC_cat%%=() { echo leaks 0; echo touching 0; echo formerly held back 0; }' 'BASH_FUNC_printf%%=() { :; }' GLOBIGNORE='*' "TMPDIR=$scratch/a b" QEMU_STRACE=1; do
         expect "$setting" "$done" "$whole" '' env "$setting" "${front[@]}" leak.footprint "${behind[@]}"
         [ "$1" = all ] || continue
         expect "$setting, refused" 2 "$cut" "$cut_words" env "$setting" "${front[@]}" cut.footprint "${behind[@]}"

@@ -134,7 +134,7 @@ proves() { # crate, stamps of what it needs
 }
 during() { :; } # crate
 links() { # program
-    printf '#!/bin/bash -p\necho leaks 1; echo "test %s train %s pairs %s"; echo touching 0\n' \
+    printf '#!/bin/bash -p\necho leaks 1; echo "test %s train %s pairs %s"; echo touching 0; echo formerly held back 0\n' \
         "$(<"crates/$1/src/main.rt")" "$(<target/rlib/floats)" "$(<target/rlib/lines)" >"target/bin/$1"
     chmod +x "target/bin/$1"
 }

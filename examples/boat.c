@@ -30,7 +30,7 @@ static const struct {
     /* three recordings along one line, each from the edge on where the one before ends */
     {240917101, MESKELOW_TRAINING, 2, {{{0, 3000}, {0, -3000}}, {{20000, 3000}, {20000, -3000}}}},
     {240917102, MESKELOW_TEST, 2, {{{20000, 3000}, {20000, -3000}}, {{40000, 3000}, {40000, -3000}}}},
-    {240917103, MESKELOW_HELD_BACK, 2, {{{40000, 3000}, {40000, -3000}}, {{60000, 3000}, {60000, -3000}}}},
+    {240917103, MESKELOW_TRAINING, 2, {{{40000, 3000}, {40000, -3000}}, {{60000, 3000}, {60000, -3000}}}},
     /* the way home, across the first: both its triangles overlap both of the other. At the end the fix dropped */
     {240917104, MESKELOW_TEST, 3, {{{12000, 10000}, {8000, 10000}}, {{12000, -10000}, {8000, -10000}}, {{NO_FIX, NO_FIX}, {8000, -30000}}}},
 };
@@ -84,7 +84,7 @@ static const char *reason(uint32_t number)
 {
     switch (number) {
     case MESKELOW_REFUSED_TABLE: return "the lists do not belong together";
-    case MESKELOW_REFUSED_ENTRY: return "a recording has no triangle left, or a set that there is not";
+    case MESKELOW_REFUSED_ENTRY: return "a recording has no triangle left, or is neither training nor test";
     case MESKELOW_REFUSED_SAME_ID: return "two recordings have the same id";
     case MESKELOW_REFUSED_OUT_OF_RANGE: return "a position is over 10 km off the origin, or there was no fix";
     case MESKELOW_REFUSED_NO_AREA: return "the points of a triangle lie on one line";

@@ -13,6 +13,7 @@ struct List {
     leaks: u32,
     touching: u32,
     tested: u32,
+    formerly_held_back: u32,
 }
 
 extern "C" {
@@ -38,7 +39,10 @@ fn run() -> io::Result<i32> {
     if list.number != 0 {
         return Ok(2);
     }
-    eprintln!("{} overlap, {} only touch; {} triangle pairs tested", list.leaks, list.touching, list.tested);
+    eprintln!(
+        "{} overlap, {} only touch; {} triangle pairs tested; {} formerly held back",
+        list.leaks, list.touching, list.tested, list.formerly_held_back
+    );
     Ok(i32::from(list.leaks > 0))
 }
 

@@ -11,7 +11,7 @@ import pathlib
 import struct
 import sys
 
-TRAINING, TEST, HELD_BACK = 0, 1, 2
+TRAINING, TEST = 0, 1
 FARTHEST = 1_000_000  # centimetres from the origin, along each axis
 STEPS = 12  # stretches of a recording, each of them a quadrilateral of about 170 m
 
@@ -108,22 +108,22 @@ def night():
     line(boat, -4000, [TRAINING] * 6)
     line(boat, -2400, [TRAINING] * 4 + [TEST] * 2)  # the sets change in the middle of a line
     line(boat, -800, [TRAINING] * 6)
-    line(boat, 800, [HELD_BACK] * 6)
+    line(boat, 800, [TRAINING] * 6)
     line(boat, 2400, [TEST] * 6)
-    line(boat, 4000, [TRAINING] * 3 + [HELD_BACK] + [TEST] * 2)
+    line(boat, 4000, [TRAINING] * 4 + [TEST] * 2)
     line(boat, 5600, [TRAINING] * 6)
-    boat.sail(on_grid(-1500, 5640), on_grid(2500, 5580), [HELD_BACK, TEST])  # the eighth line again
-    boat.sail(on_grid(5600, 5200), on_grid(-5200, -5900), [TRAINING, TEST, TRAINING, HELD_BACK, TEST, TRAINING, TEST])
+    boat.sail(on_grid(-1500, 5640), on_grid(2500, 5580), [TRAINING, TEST])  # the eighth line again
+    boat.sail(on_grid(5600, 5200), on_grid(-5200, -5900), [TRAINING, TEST, TRAINING, TRAINING, TEST, TRAINING, TEST])
     return footprint(boat.recordings)
 
 
 def clean():
-    """Three lines, one for each set, and a way home that is held back, so that it may cross them."""
+    """Three lines, and a way home that crosses the two of them that are training."""
     boat = Boat(seed=20240921, first_id=240921001)
     line(boat, -1600, [TRAINING] * 3)
-    line(boat, 0, [HELD_BACK] * 3)
+    line(boat, 0, [TRAINING] * 3)
     line(boat, 1600, [TEST] * 3)
-    boat.sail(on_grid(-1000, 2000), on_grid(-5000, -2000), [HELD_BACK] * 2)
+    boat.sail(on_grid(-1000, 800), on_grid(-5000, -2000), [TRAINING] * 2)
     return footprint(boat.recordings)
 
 

@@ -5,7 +5,7 @@
 
 #include "meskelow.h"
 
-static const char *const sets[] = {[MESKELOW_TRAINING] = "training", [MESKELOW_TEST] = "test", [MESKELOW_HELD_BACK] = "held back"};
+static const char *const sets[] = {[MESKELOW_TRAINING] = "training", [MESKELOW_TEST] = "test", [MESKELOW_FORMERLY_HELD_BACK] = "formerly held back"};
 
 /* One stored coordinate; six make a triangle. */
 static int32_t coordinate(const uint8_t *bytes)

@@ -147,8 +147,9 @@ enum { /* refusals.tsv: file */
     MESKELOW_REFUSED_STORED_LENGTH = 12, /* the length in the trailer is not the file's, as after a copy that was cut off */
     MESKELOW_REFUSED_TRAILER = 13,       /* there are over 64 recordings, or in a file the table's place, 12 for each recording
                                           * and 12 for the trailer do not add up to the length (place: the trailer) */
-    MESKELOW_REFUSED_ENTRY = 14,         /* an entry has no triangles, a set over 2 or a last byte that is not 0, or in a file
-                                          * does not begin where the one before ends, the first at 0 (place: the entry) */
+    MESKELOW_REFUSED_ENTRY = 14,         /* an entry has no triangles, a set over 2, or in lists to be written over 1, a last
+                                          * byte that is not 0, or in a file does not begin where the one before ends, the
+                                          * first at 0 (place: the entry) */
     MESKELOW_REFUSED_TABLE = 15,         /* the last triangle does not end at the table, or there are no recordings and the
                                           * table is not at 0; of lists to be written: their lengths differ, a triangle is
                                           * broken off, or the counts do not add up to the triangles (place: the table) */
@@ -165,10 +166,11 @@ typedef struct {
 
 meskelow_verdict meskelow_check(const uint8_t *file, size_t file_len);
 
-enum { /* the sets of recordings */
+enum { /* the sets of recordings, as they are stored */
     MESKELOW_TRAINING = 0,
     MESKELOW_TEST = 1,
-    MESKELOW_HELD_BACK = 2
+    MESKELOW_FORMERLY_HELD_BACK = 2 /* retired: in old files only, where it counts as training; nothing is written with it. (It was
+                                     * MESKELOW_HELD_BACK; whoever used that name should see README.md, "No more held back") */
 };
 
 enum { /* refusals.tsv: recording */
@@ -182,7 +184,7 @@ typedef struct {
     uint32_t id;       /* of an answer, the table entry: id, */
     uint32_t first;    /* place of the first triangle, */
     uint32_t count;    /* count of triangles, one at least, */
-    uint32_t set;      /* MESKELOW_TRAINING, MESKELOW_TEST or MESKELOW_HELD_BACK, */
+    uint32_t set;      /* MESKELOW_TRAINING, MESKELOW_TEST or MESKELOW_FORMERLY_HELD_BACK, as the file has it, */
     uint32_t last;     /* and the entry's last byte, zero today */
 } meskelow_entry;
 
@@ -208,13 +210,14 @@ typedef struct {       /* of what was to be written to a room: */
  * Where each recording begins, its last byte, which is 0, and the trailer are the writer's own.
  *
  * meskelow_check finds every file good that was written, and meskelow_recording hands its recordings back as they were given: ids,
- * counts, sets and triangles. The other way round, what meskelow_recording tells of a good file, put into such lists for k from 0
- * on, makes that file again, byte for byte.
+ * counts, sets and triangles. The other way round, what meskelow_recording tells of a good file without
+ * MESKELOW_FORMERLY_HELD_BACK, put into such lists for k from 0 on, makes that file again, byte for byte; of one with it the lists
+ * are refused, 14, and with MESKELOW_TRAINING in its place they make a file of which the leak list is the same but for its last line.
  *
  * A call is refused, with nothing written, for the first of these that applies:
  *
  *     15  ids, counts and sets differ in length, or numbers_len is no multiple of 6, so that a triangle is broken off
- *     14  entry after entry: its count is 0, or its set is over MESKELOW_HELD_BACK;
+ *     14  entry after entry: its count is 0, or its set is neither MESKELOW_TRAINING nor MESKELOW_TEST;
  *     16                     else its id is that of an earlier entry
  *     15  the counts do not add up to the triangles; the sum is exact, and 0 without recordings
  *     17  triangle after triangle: a number is out of range;
@@ -268,16 +271,20 @@ typedef struct {
     uint32_t place;    /* the file's own, or 0 */
     size_t length;     /* of an answer, the list's bytes, at the front of the room; no NUL stands behind them */
     uint32_t leaks;    /* how many leak lines it has: 0 says that no test recording overlaps a training recording, */
-    uint32_t touching; /* and the number of its closing line: how many pairs of a test and a training recording only touch */
+    uint32_t touching; /* the number behind `touching`: how many pairs of a test and a training recording only touch, */
     uint32_t tested;   /* how many triangle pairs of test and training recordings were given to the triangle rules: those whose
                         * boxes share a point, no more and no fewer. It is no part of the list's text. (Since this field the
                         * struct has 32 bytes, where it had 24: what was compiled with an older header has to be compiled again) */
+    uint32_t formerly_held_back; /* and the number of the last line: how many recordings are stored with
+                                  * MESKELOW_FORMERLY_HELD_BACK. (The struct still has 32 bytes) */
 } meskelow_list;
 
 /* The leak list of the file: `leaks K`; then for each test recording and training recording with a triangle pair that overlaps, in
- * table order, a line `test T train R pairs N` with their ids and the number of triangle pairs that overlap; last, always, the
- * closing line `touching K` with the number of pairs of a test and a training recording that have a triangle pair that touches and
- * none that overlaps, each counted once. Decimal numbers, a line feed after each line. The shortest list has 19 bytes. */
+ * table order, a line `test T train R pairs N` with their ids and the number of triangle pairs that overlap; then, always,
+ * `touching K` with the number of pairs of a test and a training recording that have a triangle pair that touches and none that
+ * overlaps, each counted once; last, always, `formerly held back K` with the number of recordings that are stored with
+ * MESKELOW_FORMERLY_HELD_BACK, whether they meet a test recording or not: they are training recordings here. Decimal numbers, a line
+ * feed after each line. The shortest list has 40 bytes. */
 meskelow_list meskelow_leaks(const uint8_t *file, size_t file_len, uint8_t *room, size_t room_len);
 
 #ifdef __cplusplus

@@ -9,9 +9,10 @@ is 3 unless Python itself does not begin, there is no picture, or not all of one
 
     svg = draw.picture(file, "night.footprint")     # raises meskelow.Refused, 11 to 18
 
-Training recordings are blue, test recordings orange, and those held back grey, with a broken outline. Recordings that stand in the leak
-list have a black outline and their ids; what a test recording shares with training recordings is black, with a line around it, since
-it may be too small to be seen. Both axes have one scale, x to the right and y upwards.
+Training recordings are blue, test recordings orange, and those of old files that were held back once, which are training too, light
+blue with a broken outline. Recordings that stand in the leak list have a black outline and their ids; what a test recording shares
+with training recordings is black, with a line around it, since it may be too small to be seen. Both axes have one scale, x to the
+right and y upwards.
 
 All is computed in whole numbers, so the same file and title give the same bytes everywhere. (Where the parts lie that strips share
 is the library's answer, in f64, which is the same everywhere too.)
@@ -52,7 +53,7 @@ class Style(NamedTuple):
 STYLES = {
     meskelow.TRAINING: Style("training", "#0072b2", "#00456b", ""),
     meskelow.TEST: Style("test", "#f0a500", "#7a4b00", ""),
-    meskelow.HELD_BACK: Style("held back", "#d9d9d9", "#8c8c8c", ' stroke-dasharray="3 2"'),
+    meskelow.FORMERLY_HELD_BACK: Style("formerly held back (training)", "#b3d4ea", "#00456b", ' stroke-dasharray="3 2"'),
 }
 MARK = "#000"
 
@@ -251,9 +252,10 @@ def map_of(recordings: Sequence[meskelow.Recording], found: meskelow.LeakList, c
         yield text(x, y, "no recordings", 18 * UNIT, ' text-anchor="middle" fill="#595959"')
         return
     leaking = {i for leak in found.leaks for i in (leak.test, leak.train)}
-    for which in (meskelow.HELD_BACK, meskelow.TRAINING, meskelow.TEST):
+    upwards = (meskelow.FORMERLY_HELD_BACK, meskelow.TRAINING, meskelow.TEST)
+    for which in upwards:
         yield from strips([r for r in recordings if r.set == which and r.id not in leaking], STYLES[which], chart)
-    for which in (meskelow.TRAINING, meskelow.TEST):
+    for which in upwards:
         yield from outlined_strips([r for r in recordings if r.set == which and r.id in leaking], STYLES[which], chart)
     if found.leaks:
         shared = shared_parts(recordings, found, chart)

@@ -17,9 +17,13 @@
         print(leak.test, leak.train, leak.pairs)
     print(found.touching, "pairs of recordings only touch;", found.tested, "pairs of triangles had boxes that meet")
 
-    kept = [r for r in meskelow.recordings(file) if r.set != meskelow.HELD_BACK]
-    with open("kept.footprint", "wb") as stream:
-        stream.write(meskelow.write(kept))
+    tests = [r for r in meskelow.recordings(file) if r.set == meskelow.TEST]
+    with open("tests.footprint", "wb") as stream:
+        stream.write(meskelow.write(tests))
+
+    if found.formerly_held_back > 0:  # an old file: what was held back once is training now
+        old = meskelow.FORMERLY_HELD_BACK
+        file = meskelow.write(r._replace(set=meskelow.TRAINING) if r.set == old else r for r in meskelow.recordings(file))
 
     print(meskelow.wkt(file, found.leaks[0].test))  # for a viewer: GEOMETRYCOLLECTION (POLYGON ((0.00 0.00, 4.00 0.00, ...
 
@@ -62,7 +66,7 @@ ARCHIVE = ROOT / "target" / "staticlib" / "libmeskelow.a"
 LIBRARY = ROOT / "target" / "python" / "libmeskelow.so"
 REFUSALS = ROOT / "refusals.tsv"
 
-TRAINING, TEST, HELD_BACK = 0, 1, 2  # the sets of recordings
+TRAINING, TEST, FORMERLY_HELD_BACK = 0, 1, 2  # the sets of recordings, as they are stored; the last, of old files, is training too
 
 # The refusals by name, from refusals.tsv.
 REFUSED_LENGTHS = 1
@@ -179,7 +183,7 @@ class Recording(NamedTuple):
     """An entry of a footprint file's table, and its triangles."""
 
     id: int
-    set: int  # TRAINING, TEST or HELD_BACK
+    set: int  # TRAINING, TEST or FORMERLY_HELD_BACK, as the file has it
     first: int  # place of the first triangle
     last: int  # the entry's last byte
     triangles: Tuple[Tuple[Tuple[int, int], Tuple[int, int], Tuple[int, int]], ...]  # whole centimetres
@@ -207,13 +211,14 @@ class Leak(NamedTuple):
 
 
 class LeakList(NamedTuple):
-    """The leaks of a file in the list's order, the list itself, the number of its closing line, and how many pairs of triangles were
-    given to the triangle rules, which the text does not say. More may come behind these: take them by their names."""
+    """The leaks of a file in the list's order, the list itself, the numbers of its two closing lines, and how many pairs of triangles
+    were given to the triangle rules, which the text does not say. More may come behind these: take them by their names."""
 
     leaks: Tuple[Leak, ...]
     text: str
     touching: int  # how many pairs of a test and a training recording touch and do not overlap
     tested: int  # how many triangle pairs of test and training recordings have boxes that share a point
+    formerly_held_back: int  # how many recordings are stored with FORMERLY_HELD_BACK; they are training recordings here
 
 
 def intersect(u: Triangle, v: Triangle) -> Answer:
@@ -289,8 +294,9 @@ def recordings(file: Bytes) -> Iterator[Recording]:
 
 def write(recordings: Iterable[Draft]) -> bytes:
     """The footprint file with these recordings, in their order. `check` accepts it, and the function `recordings` gives their ids,
-    sets and triangles back; and `write(recordings(file))` are the bytes of the file. What is iterated is gone through once: of an
-    iterator that was used up before there are no recordings left, and the file is the one without any, of 12 bytes.
+    sets and triangles back; and `write(recordings(file))` are the bytes of the file, unless it has FORMERLY_HELD_BACK, with which
+    nothing is written. What is iterated is gone through once: of an iterator that was used up before there are no recordings left,
+    and the file is the one without any, of 12 bytes.
 
     Each recording is taken by its id, set and triangles. Where it begins is the file's own, so `first` is not looked at. Ids, sets
     and coordinates are whole numbers as indexes of lists are: True is 1, and 1.0 is a TypeError. An id that is not from 0 to
@@ -298,10 +304,10 @@ def write(recordings: Iterable[Draft]) -> bytes:
     refused for its shape are not looked at.
 
     Raises `Refused` with place 0, for the first of these that applies: 15 for a triangle that is not three vertices with two
-    coordinates each; for recording after recording 14, which is one without triangles, a set over 2 or below 0 or a `last` that is
-    not 0, and 16, an id that an earlier one has; for triangle after triangle 17, a coordinate out of range, and 18, no area; 13 for
-    over 64 recordings; 19 for a file that would be longer than 65,536 bytes. Very many recordings take long: each id is compared with
-    all earlier ones before 13 is said."""
+    coordinates each; for recording after recording 14, which is one without triangles, a set other than TRAINING and TEST or a `last`
+    that is not 0, and 16, an id that an earlier one has; for triangle after triangle 17, a coordinate out of range, and 18, no area;
+    13 for over 64 recordings; 19 for a file that would be longer than 65,536 bytes. Very many recordings take long: each id is
+    compared with all earlier ones before 13 is said."""
     ids, counts, sets, coordinates = array.array("I"), array.array("I"), bytearray(), array.array("i")
     whole = True
     for draft in recordings:
@@ -333,9 +339,10 @@ def leaks(file: Bytes) -> LeakList:
     text = room.raw[: got.length].decode("ascii")
     found = tuple(Leak(*map(int, line)) for line in _LEAK.findall(text))
     lines = "".join(f"test {leak.test} train {leak.train} pairs {leak.pairs}\n" for leak in found)
-    if text != f"leaks {got.leaks}\n{lines}touching {got.touching}\n" or len(found) != got.leaks:
+    closing = f"touching {got.touching}\nformerly held back {got.formerly_held_back}\n"
+    if text != f"leaks {got.leaks}\n{lines}{closing}" or len(found) != got.leaks:
         raise LibraryError("the library writes other lists than this module reads; are both of one version?")
-    return LeakList(found, text, got.touching, got.tested)
+    return LeakList(found, text, got.touching, got.tested, got.formerly_held_back)
 
 
 def wkt(file: Bytes, id: SupportsIndex) -> str:
@@ -414,6 +421,7 @@ class _List(ctypes.Structure):
         ("leaks", ctypes.c_uint32),
         ("touching", ctypes.c_uint32),
         ("tested", ctypes.c_uint32),
+        ("formerly_held_back", ctypes.c_uint32),
     ]
 
 

@@ -24,9 +24,10 @@ import meskelow
 ROOT = pathlib.Path(__file__).resolve().parent.parent
 EXAMPLES = ROOT / "examples"
 PYTHON = sys.argv[1:] or [sys.executable]
-NAMES = ("night", "clean", "leak", "neighbours")
+NAMES = ("night", "clean", "leak", "old", "neighbours")
 SVG = "{http://www.w3.org/2000/svg}"
-SETS = {meskelow.TRAINING: ("training", "#0072b2"), meskelow.TEST: ("test", "#f0a500"), meskelow.HELD_BACK: ("held back", "#d9d9d9")}
+OLD = meskelow.FORMERLY_HELD_BACK
+SETS = {meskelow.TRAINING: ("training", "#0072b2"), meskelow.TEST: ("test", "#f0a500"), OLD: ("formerly held back (training)", "#b3d4ea")}
 NUMBER = re.compile(r"-?(?:[0-9]+(?:\.[0-9]+)?|\.[0-9]+)")
 
 V = [(0, 0), (400, 0), (0, 400)]
@@ -38,8 +39,11 @@ def example(name):
 
 
 def file_of(*recordings):
-    """The file with these recordings: id, set, triangles."""
-    return meskelow.write(types.SimpleNamespace(id=i, set=which, triangles=own) for i, which, own in recordings)
+    """The file with these recordings: id, set, triangles. The set of old files is put in afterwards, as nothing is written with it."""
+    file = bytearray(meskelow.write(types.SimpleNamespace(id=i, set=which % OLD, triangles=own) for i, which, own in recordings))
+    table = int.from_bytes(file[-12:-8], "little")
+    file[table + 10 : -12 : 12] = bytes(which for _, which, _ in recordings)
+    return bytes(file)
 
 
 def strip(x, y, dx, dy, steps, half):
@@ -92,7 +96,8 @@ def made():
         "from south to north": file_of((1, 0, [[(0, -FAR), (0, FAR), (1, 0)]]), (2, 1, [[(0, -FAR), (1, FAR), (1, 0)]]), (3, 2, [V])),
         "2,729 triangles": file_of((7, 1, strip(-900000, -500000, 650, 200, 1365, 4000)[:2729])),
         "many pairs": file_of((1, 0, tiny), (2, 1, tiny)),
-        "held back": file_of((1, 2, [V])),
+        "formerly held back": file_of((1, OLD, [V])),
+        "a leak with what was held back": file_of((1, OLD, [V]), (2, 1, [V]), (3, 0, [V])),
         "training": file_of((1, 0, [V]), (2, 0, [V])),
         "twice": file_of((1, 0, strip(0, 0, 500, 0, 40, 50)), (2, 1, [t for x in (2000, 17000) for t in strip(x, -1000, 0, 200, 10, 20)])),
     }
@@ -235,7 +240,7 @@ class Pictures(unittest.TestCase):
             ("clean", "There are no leaks: no test recording overlaps a training recording. 0 pairs only touch."),
             ("neighbours", "There are no leaks: no test recording overlaps a training recording. 1 pair only touches."),
             ("leak", "1 leak: a test recording overlaps a training recording. 0 more pairs only touch."),
-            ("night", "5 leaks: pairs of a test and a training recording that overlap. 5 more pairs only touch."),
+            ("night", "5 leaks: pairs of a test and a training recording that overlap. 7 more pairs only touch."),
         ]:
             self.assertIn(words, self.read[name].texts)
 

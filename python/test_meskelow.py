@@ -50,8 +50,17 @@ LEAK = bytes.fromhex(
     "30000000 02000000 54000000"
 )
 EMPTY = bytes.fromhex("00000000 00000000 0c000000")
-LIST = "leaks 1\ntest 9 train 7 pairs 1\ntouching 0\n"
-NO_LEAKS = "leaks 0\ntouching 0\n"
+LIST = "leaks 1\ntest 9 train 7 pairs 1\ntouching 0\nformerly held back 0\n"
+NO_LEAKS = "leaks 0\ntouching 0\nformerly held back 0\n"
+
+
+def closing(touching, old=0):
+    return f"touching {touching}\nformerly held back {old}\n"
+
+
+def neither(touching, old=0):
+    """The list without a leak."""
+    return f"leaks 0\n{closing(touching, old)}"
 
 
 def changed(place, byte):
@@ -624,37 +633,76 @@ class Files(Case):
 
     def test_leaks(self):
         got = meskelow.leaks(LEAK)
-        self.assertEqual(got, (((9, 7, 1),), LIST, 0, 1))
+        self.assertEqual(got, (((9, 7, 1),), LIST, 0, 1, 0))
         self.assertEqual((got.leaks[0].test, got.leaks[0].train, got.leaks[0].pairs), (9, 7, 1))
-        self.assertEqual((got.text, got.touching, got.tested), (LIST, 0, 1))
+        self.assertEqual((got.text, got.touching, got.tested, got.formerly_held_back), (LIST, 0, 1, 0))
 
     def test_touching(self):
         """Each two recordings count once, however many of their triangles touch, and not if any overlap."""
-        train, test, held_back = meskelow.TRAINING, meskelow.TEST, meskelow.HELD_BACK
+        train, test = meskelow.TRAINING, meskelow.TEST
         for recordings, expected in [
-            ([(7, train, [V]), (9, test, [F])], ((), "leaks 0\ntouching 1\n", 1, 1)),
-            ([(7, train, [V, V]), (9, test, [F, F])], ((), "leaks 0\ntouching 1\n", 1, 4)),
-            ([(7, train, [V]), (9, test, [F, D])], (((9, 7, 1),), LIST, 0, 2)),
-            ([(7, train, [V]), (9, test, [D, F, F])], (((9, 7, 1),), LIST, 0, 3)),
-            ([(7, train, [V]), (9, test, [F]), (3, train, [V])], ((), "leaks 0\ntouching 2\n", 2, 2)),
-            ([(7, train, [V]), (9, test, [F]), (3, test, [D])], (((3, 7, 1),), "leaks 1\ntest 3 train 7 pairs 1\ntouching 1\n", 1, 2)),
-            ([(7, train, [V]), (9, held_back, [F])], ((), NO_LEAKS, 0, 0)),
-            ([(7, held_back, [V]), (9, test, [F])], ((), NO_LEAKS, 0, 0)),
-            ([(7, train, [V]), (9, train, [F])], ((), NO_LEAKS, 0, 0)),
+            ([(7, train, [V]), (9, test, [F])], ((), neither(1), 1, 1, 0)),
+            ([(7, train, [V, V]), (9, test, [F, F])], ((), neither(1), 1, 4, 0)),
+            ([(7, train, [V]), (9, test, [F, D])], (((9, 7, 1),), LIST, 0, 2, 0)),
+            ([(7, train, [V]), (9, test, [D, F, F])], (((9, 7, 1),), LIST, 0, 3, 0)),
+            ([(7, train, [V]), (9, test, [F]), (3, train, [V])], ((), neither(2), 2, 2, 0)),
+            ([(7, train, [V]), (9, test, [F]), (3, test, [D])], (((3, 7, 1),), f"leaks 1\ntest 3 train 7 pairs 1\n{closing(1)}", 1, 2, 0)),
+            ([(7, train, [V]), (9, train, [F])], ((), NO_LEAKS, 0, 0, 0)),
         ]:
             with self.subTest(recordings=recordings):
                 self.assertEqual(meskelow.leaks(footprint(*recordings)), expected)
 
+    def test_formerly_held_back(self):
+        """Set 2 is training, in the table's order; how many have it is counted, whether they meet a test recording or not."""
+        train, test, old = meskelow.TRAINING, meskelow.TEST, meskelow.FORMERLY_HELD_BACK
+        for recordings, expected in [
+            ([(7, old, [V]), (9, test, [D])], (((9, 7, 1),), f"leaks 1\ntest 9 train 7 pairs 1\n{closing(0, 1)}", 0, 1, 1)),
+            ([(7, old, [V]), (9, test, [F])], ((), neither(1, 1), 1, 1, 1)),
+            ([(7, train, [V]), (9, old, [F])], ((), neither(0, 1), 0, 0, 1)),
+            ([(7, old, [V]), (9, old, [D])], ((), neither(0, 2), 0, 0, 2)),
+            ([(7, old, [V]), (9, test, [E])], ((), neither(0, 1), 0, 0, 1)),
+            (
+                [(9, test, [D]), (7, train, [V]), (5, old, [V, V]), (3, train, [V])],
+                (
+                    ((9, 7, 1), (9, 5, 2), (9, 3, 1)),
+                    f"leaks 3\ntest 9 train 7 pairs 1\ntest 9 train 5 pairs 2\ntest 9 train 3 pairs 1\n{closing(0, 1)}",
+                    0,
+                    4,
+                    1,
+                ),
+            ),
+        ]:
+            with self.subTest(recordings=recordings):
+                file = footprint(*recordings)
+                got = meskelow.leaks(file)
+                self.assertEqual(got, expected)
+                self.assertEqual([r.set for r in meskelow.recordings(file)], [which for _, which, _ in recordings])
+                now = footprint(*((identity, train if which == old else which, own) for identity, which, own in recordings))
+                text = got.text.replace(closing(got.touching, got.formerly_held_back), closing(got.touching))
+                self.assertEqual(meskelow.leaks(now), got._replace(text=text, formerly_held_back=0))
+
+    def test_old_file(self):
+        """How an old file is moved over, as README has it."""
+        old = (EXAMPLES / "old.footprint").read_bytes()
+        self.assertEqual(old, changed(58, 2))
+        with self.refused(14, 0):
+            meskelow.write(meskelow.recordings(old))
+        moved = meskelow.write(
+            r._replace(set=meskelow.TRAINING) if r.set == meskelow.FORMERLY_HELD_BACK else r for r in meskelow.recordings(old)
+        )
+        self.assertEqual(moved, LEAK)
+        self.assertEqual(meskelow.leaks(old), (((9, 7, 1),), LIST.replace("back 0", "back 1"), 0, 1, 1))
+
     def test_tested(self):
         """Pairs whose boxes share a point, of test and training recordings: each, also once a pair leaks, and no other."""
-        train, test, held_back = meskelow.TRAINING, meskelow.TEST, meskelow.HELD_BACK
+        train, test, old = meskelow.TRAINING, meskelow.TEST, meskelow.FORMERLY_HELD_BACK
         corner, aside = [(4, 4), (8, 4), (8, 8)], [(5, 0), (9, 0), (9, 4)]
         for recordings, expected in [
-            ([(7, train, [V]), (9, test, [corner])], ((), NO_LEAKS, 0, 1)),
-            ([(7, train, [V]), (9, test, [aside])], ((), NO_LEAKS, 0, 0)),
-            ([(7, train, [V, V, V]), (9, test, [aside, corner, D, D])], (((9, 7, 6),), "leaks 1\ntest 9 train 7 pairs 6\ntouching 0\n", 0, 9)),
-            ([(7, train, [V]), (9, test, [D]), (5, held_back, [V, D])], (((9, 7, 1),), LIST, 0, 1)),
-            ([(7, train, [BEYOND[1]]), (9, test, [BEYOND[0]])], ((), NO_LEAKS, 0, 0)),
+            ([(7, train, [V]), (9, test, [corner])], ((), NO_LEAKS, 0, 1, 0)),
+            ([(7, train, [V]), (9, test, [aside])], ((), NO_LEAKS, 0, 0, 0)),
+            ([(7, train, [V, V, V]), (9, test, [aside, corner, D, D])], (((9, 7, 6),), f"leaks 1\ntest 9 train 7 pairs 6\n{closing(0)}", 0, 9, 0)),
+            ([(7, train, [V]), (9, test, [corner]), (5, old, [V, F])], ((), neither(0, 1), 0, 2, 1)),
+            ([(7, train, [BEYOND[1]]), (9, test, [BEYOND[0]])], ((), NO_LEAKS, 0, 0, 0)),
         ]:
             with self.subTest(recordings=recordings):
                 self.assertEqual(meskelow.leaks(footprint(*recordings)), expected)
@@ -662,20 +710,20 @@ class Files(Case):
     def test_neighbours(self):
         """Two strips one behind the other, of which one is a test recording."""
         got = meskelow.leaks((EXAMPLES / "neighbours.footprint").read_bytes())
-        self.assertEqual(got, ((), "leaks 0\ntouching 1\n", 1, 3))
+        self.assertEqual(got, ((), neither(1), 1, 3, 0))
 
     def test_night(self):
         """Its list comes from the second program."""
         got = meskelow.leaks((EXAMPLES / "night.footprint").read_bytes())
-        self.assertEqual((got.text, got.tested), ((EXAMPLES / "night.expected").read_text(), 148))
-        first, *lines, closing = got.text.splitlines()
-        self.assertEqual((first, closing), (f"leaks {len(got.leaks)}", f"touching {got.touching}"))
+        self.assertEqual((got.text, got.tested), ((EXAMPLES / "night.expected").read_text(), 155))
+        first, *lines, touching, last = got.text.splitlines()
+        self.assertEqual((first, touching, last), (f"leaks {len(got.leaks)}", f"touching {got.touching}", "formerly held back 0"))
         self.assertEqual([f"test {leak.test} train {leak.train} pairs {leak.pairs}" for leak in got.leaks], lines)
 
     def test_no_leaks(self):
-        self.assertEqual(meskelow.leaks(EMPTY), ((), NO_LEAKS, 0, 0))
-        self.assertEqual(meskelow.leaks(changed(70, 2)), ((), NO_LEAKS, 0, 0))  # 9 is held back
-        self.assertEqual(meskelow.leaks(changed(58, 1)), ((), NO_LEAKS, 0, 0))  # both are test recordings
+        self.assertEqual(meskelow.leaks(EMPTY), ((), NO_LEAKS, 0, 0, 0))
+        self.assertEqual(meskelow.leaks(changed(70, 2)), ((), neither(0, 1), 0, 0, 1))  # 9 was held back once, and is training
+        self.assertEqual(meskelow.leaks(changed(58, 1)), ((), NO_LEAKS, 0, 0, 0))  # both are test recordings
 
     def test_kinds_of_bytes(self):
         """By the bytes that they hold, whatever these are called, in their order."""
@@ -732,7 +780,7 @@ class Writing(Case):
     def test_every_field(self):
         """Each byte of the table where it belongs: ids of four different bytes, places over 255 and 65,535, counts over 255."""
         far = [(-1000000, 1000000), (1000000, -999999), (-65536, 65537)]
-        drafts = [(0x04030201, 0, [far] * 300), (0, 2, [V]), (0xFFFFFFFF, 1, [D, far] * 1200), (7, 1, [far])]
+        drafts = [(0x04030201, 0, [far] * 300), (0, 0, [V]), (0xFFFFFFFF, 1, [D, far] * 1200), (7, 1, [far])]
         file = meskelow.write(own(*draft) for draft in drafts)
         self.assertEqual(file, footprint(*drafts))
         self.assertEqual([r.first for r in meskelow.recordings(file)], [0, 7200, 7224, 64824])
@@ -747,7 +795,7 @@ class Writing(Case):
     def test_read_back(self):
         """A part of the night in another order: everything comes back but the places, which are the new file's."""
         night = list(meskelow.recordings((EXAMPLES / "night.footprint").read_bytes()))
-        kept = [r for r in reversed(night) if r.set != meskelow.HELD_BACK]
+        kept = [r for r in reversed(night) if r.set == meskelow.TEST or r.id % 3 > 0]
         file = meskelow.write(kept)
         self.assertIsNone(meskelow.check(file))
         found = list(meskelow.recordings(file))
@@ -817,9 +865,9 @@ class Writing(Case):
                 meskelow.write([own(9, 3, []), own(identity, 0, [V])])
 
     def test_sets(self):
-        for which in (meskelow.TRAINING, meskelow.TEST, meskelow.HELD_BACK):
+        for which in (meskelow.TRAINING, meskelow.TEST):
             self.assertEqual(meskelow.write([own(7, which, [V])]), footprint((7, which, [V])))
-        for which in (3, 128, 255, 256, 257, 2**32, 2**64, 10**5000, -1, -254, -255, -256, -(2**64)):
+        for which in (meskelow.FORMERLY_HELD_BACK, 3, 128, 255, 256, 257, 2**32, 2**64, 10**5000, -1, -254, -255, -256, -(2**64)):
             with self.refused(14, 0):
                 meskelow.write([own(7, which, [V])])
 
@@ -869,7 +917,7 @@ class Writing(Case):
 
     def test_how_many_recordings(self):
         for count in (1, 63, 64):
-            drafts = [(i, i % 3, [V]) for i in range(count)]
+            drafts = [(i, i % 2, [V]) for i in range(count)]
             self.assertEqual(meskelow.write(own(*draft) for draft in drafts), footprint(*drafts))
         for count in (65, 66, 128, 256, 320, 1000):
             with self.subTest(count=count), self.refused(13, 0):
@@ -934,7 +982,7 @@ class Writing(Case):
 
     def test_leaks_of_what_was_written(self):
         file = meskelow.write([own(7, meskelow.TRAINING, [V, V]), own(9, meskelow.TEST, [F, D]), own(3, meskelow.TEST, [F])])
-        self.assertEqual(meskelow.leaks(file), (((9, 7, 2),), "leaks 1\ntest 9 train 7 pairs 2\ntouching 1\n", 1, 6))
+        self.assertEqual(meskelow.leaks(file), (((9, 7, 2),), f"leaks 1\ntest 9 train 7 pairs 2\n{closing(1)}", 1, 6, 0))
 
 
 def metres(z):
@@ -1296,30 +1344,37 @@ class Errors(Case):
 
     def test_other_lists(self):
         line = "test 9 train 7 pairs 1\n"
-        for text, count, touching in [
-            ("leaks 1\ntouching 0\n", 1, 0),
-            (f"leaks 0\n{line}touching 0\n", 0, 0),
-            (f"leaks 0\n{line}touching 0\n", 1, 0),
-            (f"leaks 1\n{line}{line}touching 0\n", 1, 0),
-            (f"leaks 1\n{line}touching 0\n", 1, 1),
-            (f"leaks 1\n{line}touching 1\n", 1, 0),
-            (f"leaks 1\n{line}", 1, 0),
-            (f"leaks 1\n{line}touching 0", 1, 0),
-            (f"leaks 1\n{line}touching 00\n", 1, 0),
-            (f"leaks 1\n{line}touching 0\ntouching 0\n", 1, 0),
-            (f"leaks 1\n{line}touching 0\njunk\n", 1, 0),
-            (f"leaks 1\ntouching 0\n{line}", 1, 0),
-            (f"touching 0\nleaks 1\n{line}", 1, 0),
-            ("leaks 0\n", 0, 0),
-            ("touching 0\n", 0, 0),
-            ("", 0, 0),
+        for text, count, touching, old in [
+            (f"leaks 1\n{closing(0)}", 1, 0, 0),
+            (f"leaks 0\n{line}{closing(0)}", 0, 0, 0),
+            (f"leaks 0\n{line}{closing(0)}", 1, 0, 0),
+            (f"leaks 1\n{line}{line}{closing(0)}", 1, 0, 0),
+            (f"leaks 1\n{line}{closing(0)}", 1, 1, 0),
+            (f"leaks 1\n{line}{closing(1)}", 1, 0, 0),
+            (f"leaks 1\n{line}{closing(0)}", 1, 0, 1),
+            (f"leaks 1\n{line}{closing(0, 1)}", 1, 0, 0),
+            (f"leaks 1\n{line}", 1, 0, 0),
+            (f"leaks 1\n{line}touching 0\n", 1, 0, 0),
+            (f"leaks 1\n{line}formerly held back 0\n", 1, 0, 0),
+            (f"leaks 1\n{line}formerly held back 0\ntouching 0\n", 1, 0, 0),
+            (f"leaks 1\n{line}{closing(0)[:-1]}", 1, 0, 0),
+            (f"leaks 1\n{line}touching 00\nformerly held back 0\n", 1, 0, 0),
+            (f"leaks 1\n{line}touching 0\nformerly held back 00\n", 1, 0, 0),
+            (f"leaks 1\n{line}touching 0\n{closing(0)}", 1, 0, 0),
+            (f"leaks 1\n{line}{closing(0)}formerly held back 0\n", 1, 0, 0),
+            (f"leaks 1\n{line}{closing(0)}junk\n", 1, 0, 0),
+            (f"leaks 1\n{closing(0)}{line}", 1, 0, 0),
+            (f"{closing(0)}leaks 1\n{line}", 1, 0, 0),
+            ("leaks 0\n", 0, 0, 0),
+            (closing(0), 0, 0, 0),
+            ("", 0, 0, 0),
         ]:
 
             class Other:
                 @staticmethod
                 def meskelow_leaks(file, length, room, room_length):
                     room[: len(text)] = text.encode()
-                    return meskelow._List(0, 0, len(text), count, touching, 0)
+                    return meskelow._List(0, 0, len(text), count, touching, 0, old)
 
             with self.subTest(text=text):
                 self.put("_library", functools.lru_cache(maxsize=None)(lambda: Other))

@@ -19,7 +19,7 @@ ready() {
 
 first_line="^leaks $number\$"
 leak_line="^test $number train $number pairs [1-9][0-9]*\$"
-closing_lines=("^touching $number\$") # behind the leak lines, a pattern each, in this order
+closing_lines=("^touching $number\$" "^formerly held back $number\$") # behind the leak lines, a pattern each, in this order
 
 judge() {
     local count i

@@ -2,7 +2,7 @@
 //! for lists do without those of recordings; where a program that skips by them could go wrong, they tell.
 
 use crate::footprint::lines_of;
-use crate::footprint::stored::{triangle, TEST, TRAINING, TRIANGLE};
+use crate::footprint::stored::{triangle, Line, TEST, TRIANGLE};
 
 #[derive(Clone, Copy, Debug, PartialEq, Eq)]
 pub struct Upright {
@@ -38,12 +38,14 @@ pub fn boxes_of(part: &[u8]) -> Vec<Upright> {
     part.chunks_exact(TRIANGLE).map(|bytes| Upright::of(triangle(bytes))).collect()
 }
 
-/// Triangle pairs of test and training recordings of a good file whose boxes share a point.
+/// Triangle pairs of test and training recordings of a good file whose boxes share a point. What is no test
+/// is training.
 pub fn near_pairs(file: &[u8]) -> usize {
     let lines = lines_of(file).unwrap_or_default();
-    let of = |set: u8| -> Vec<Upright> {
-        lines.iter().filter(|line| line.set == set).flat_map(|line| boxes_of(line.part(file))).collect()
+    let (tests, trainings): (Vec<_>, Vec<_>) = lines.iter().partition(|line| line.set == TEST);
+    let boxes = |lines: Vec<&Line>| -> Vec<Upright> {
+        lines.into_iter().flat_map(|line| boxes_of(line.part(file))).collect()
     };
-    let trainings = of(TRAINING);
-    of(TEST).iter().map(|u| trainings.iter().filter(|v| u.meets(v)).count()).sum()
+    let trainings = boxes(trainings);
+    boxes(tests).iter().map(|u| trainings.iter().filter(|v| u.meets(v)).count()).sum()
 }

@@ -30,11 +30,12 @@ impl Class<Draft> {
 
 const HUNDREDS: [usize; 4] = [80, 100, 130, 200];
 
-pub const CLASSES: [Class<Draft>; 36] = [
+pub const CLASSES: [Class<Draft>; 41] = [
     Class("no recordings", 16, |_| Draft::default()),
     Class("one recording", 20, |r| files::good::one(r).into()),
     Class("few recordings", 30, |r| files::good::few(r).into()),
     Class("several recordings", 14, |r| files::good::several(r).into()),
+    Class("recordings of one set", 20, good::of_one_set),
     Class("2, 63 or 64 recordings", 36, |r| good::of_recordings(r, &[2, 63, 64])),
     Class("65 or 66 recordings", 24, |r| good::of_recordings(r, &[65, 66])),
     Class("some hundreds of recordings", 14, |r| good::of_recordings(r, &[128, 255, 256, 257, 320])),
@@ -50,6 +51,12 @@ pub const CLASSES: [Class<Draft>; 36] = [
     Class("a triangle broken off", 90, |r| planted::one(r, s::broken_off)),
     Class("no triangles", 30, |r| planted::one(r, s::no_triangles)),
     Class("set over 2", 40, |r| planted::one(r, s::set)),
+    Class("set 2", 60, |r| planted::one(r, s::held_back)),
+    Class("set 2 of one of many entries", 80, |r| {
+        planted::one_of_many(r, &[63, 64, 64, 64, 64, 64, 80, 100, 130], &[s::held_back])
+    }),
+    Class("set 2 and an id seen beside it", 40, |r| planted::one(r, s::held_back_beside_id)),
+    Class("set 2 and another fault", 100, planted::held_back_and_another),
     Class("id already seen", 40, |r| planted::one(r, s::id)),
     Class("one of 64 entries", 50, |r| planted::one_of_many(r, &[64], &[s::set, s::id, s::id])),
     Class("one of hundreds of entries", 110, |r| {

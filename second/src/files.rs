@@ -8,6 +8,7 @@ pub mod faults;
 pub mod good;
 mod planted;
 mod raw;
+pub mod sets;
 pub mod shapes;
 pub mod shown;
 pub mod tally;

@@ -1,6 +1,7 @@
 //! A footprint file and lent room go in; the list of test recordings whose triangles overlap those of a
-//! training recording comes out, at the front of the room, how many others touch, and how many triangle
-//! pairs were given to the triangle rules. Everything follows the rules, pair by pair.
+//! training recording comes out, at the front of the room, how many others touch, how many triangle pairs
+//! were given to the triangle rules, and how many recordings are stored as held back. Everything follows the
+//! rules, pair by pair.
 
 #[cfg(test)]
 mod worked;
@@ -8,7 +9,7 @@ mod worked;
 use std::fmt::Write;
 
 use crate::decision::{by_the_triangle_rules, Decision};
-use crate::footprint::stored::{triangle, TEST, TRAINING, TRIANGLE};
+use crate::footprint::stored::{triangle, Line, HELD_BACK, TEST, TRAINING, TRIANGLE};
 use crate::footprint::{lines_of, Refused};
 use crate::triangles::VALUES;
 
@@ -22,13 +23,15 @@ pub struct List {
     pub place: u32,
     /// Bytes of the whole list.
     pub length: usize,
-    /// Its lines but the first and the last.
+    /// Its lines but the first and the two closing ones.
     pub leaks: u32,
-    /// The last line's number.
+    /// The number of the first closing line.
     pub touching: u32,
     /// How many triangle pairs of test and training recordings have boxes that share a point. No line says
     /// it.
     pub tested: u32,
+    /// The last line's number.
+    pub formerly_held_back: u32,
 }
 
 /// A test and a training recording of which triangles overlap, by their ids.
@@ -48,7 +51,14 @@ pub struct Whole {
     pub touching: u32,
     /// How many triangle pairs were given to the triangle rules.
     pub tested: u32,
+    /// How many recordings are stored as held back, whatever they meet.
+    pub formerly_held_back: u32,
     pub text: String,
+}
+
+/// Whether a list looks at it beside the tests. Teams have trained on what was to be held back.
+pub fn is_training(line: &Line) -> bool {
+    [TRAINING, HELD_BACK].contains(&line.set)
 }
 
 /// Of the triangle pairs of two recordings.
@@ -91,7 +101,7 @@ pub fn whole_list(file: &[u8]) -> Result<Whole, Refused> {
     let lines = lines_of(file)?;
     let (mut leaks, mut touching, mut tested) = (Vec::new(), 0, 0);
     for test in lines.iter().filter(|line| line.set == TEST) {
-        for training in lines.iter().filter(|line| line.set == TRAINING) {
+        for training in lines.iter().filter(|line| is_training(line)) {
             let counts = counts_of(test.part(file), training.part(file));
             if counts.leak() {
                 leaks.push(Leak { test: test.id, training: training.id, pairs: counts.overlapping });
@@ -100,8 +110,9 @@ pub fn whole_list(file: &[u8]) -> Result<Whole, Refused> {
             tested += counts.tested;
         }
     }
-    let text = text_of(&leaks, touching);
-    Ok(Whole { leaks, touching, tested, text })
+    let formerly_held_back = lines.iter().filter(|line| line.set == HELD_BACK).count() as u32;
+    let text = text_of(&leaks, touching, formerly_held_back);
+    Ok(Whole { leaks, touching, tested, formerly_held_back, text })
 }
 
 /// The second half of `leaks`: a refused file answers for itself, then the room is measured, and
@@ -118,9 +129,15 @@ pub fn written(whole: &Result<Whole, Refused>, room: &mut [u8]) -> List {
         return List { number: ROOM_TOO_SHORT, ..List::default() };
     }
     room[..text.len()].copy_from_slice(text);
-    let leaks = whole.leaks.len() as u32;
-    let (touching, tested) = (whole.touching, whole.tested);
-    List { number: 0, place: 0, length: text.len(), leaks, touching, tested }
+    List {
+        number: 0,
+        place: 0,
+        length: text.len(),
+        leaks: whole.leaks.len() as u32,
+        touching: whole.touching,
+        tested: whole.tested,
+        formerly_held_back: whole.formerly_held_back,
+    }
 }
 
 /// Every triangle of the one part with every one of the other, whatever came before.
@@ -137,7 +154,7 @@ pub fn counts_of(of_u: &[u8], of_v: &[u8]) -> Counts {
     counts
 }
 
-fn text_of(leaks: &[Leak], touching: u32) -> String {
+fn text_of(leaks: &[Leak], touching: u32, formerly_held_back: u32) -> String {
     let mut text = format!("leaks {}\n", leaks.len());
     let mut add = |line: std::fmt::Arguments| {
         text.write_fmt(line).expect("a string takes all that is written to it");
@@ -146,5 +163,6 @@ fn text_of(leaks: &[Leak], touching: u32) -> String {
         add(format_args!("test {test} train {training} pairs {pairs}\n"));
     }
     add(format_args!("touching {touching}\n"));
+    add(format_args!("formerly held back {formerly_held_back}\n"));
     text
 }

@@ -2,6 +2,7 @@
 
 pub mod coverage;
 mod events;
+mod held_back;
 pub mod largest;
 mod outlines;
 mod recordings;
@@ -11,14 +12,19 @@ mod scenes;
 mod seams;
 pub mod tally;
 mod tracks;
+pub mod twins;
 pub mod worked;
 
 use crate::files::{self, good, shapes, Class};
 use crate::footprint::lines_of;
-use crate::footprint::stored::{Line, TEST, TRAINING};
+use crate::footprint::stored::{Line, TEST};
+use crate::leaks::is_training;
 use crate::random::Random;
 
-pub const CLASSES: [Class; 28] = [
+/// Good files in the first so many; what is held back among them is so by chance.
+pub const OF_ANY_SETS: usize = 27;
+
+pub const CLASSES: [Class; 31] = [
     Class("no recordings", 7, |_| good::none().bytes()),
     Class("worked pairs", 14, scenes::worked),
     Class("few recordings on a small grid", 20, |r| scenes::grid(r, 2, 6, 3)),
@@ -47,6 +53,9 @@ pub const CLASSES: [Class; 28] = [
     Class("rows that one triangle leaves", 54, rows::file),
     Class("beyond the tip of a needle", 24, scenes::needle),
     Class("files that readers are compared with", 100, any_file),
+    Class("others' trainings stored as held back", 60, held_back::among_others),
+    Class("held back beside tests and others", 50, held_back::roles),
+    Class("64 recordings held back, or all but tests", 32, held_back::crowd),
 ];
 
 /// A class by its weight.
@@ -68,11 +77,16 @@ fn any_file(random: &mut Random) -> Vec<u8> {
 /// Triangle pairs that a list has to look at; none of a refused file.
 pub fn pairs_in(file: &[u8]) -> usize {
     let lines = lines_of(file).unwrap_or_default();
-    let triangles = |set: u8| -> usize { of_set(&lines, set).map(|line| usize::from(line.count)).sum() };
-    triangles(TEST) * triangles(TRAINING)
+    let count = |line: &Line| usize::from(line.count);
+    of_set(&lines, TEST).map(count).sum::<usize>() * trainings(&lines).map(count).sum::<usize>()
 }
 
-/// The recordings of one set, in the table's order.
+/// The recordings that a list looks at beside the tests, in the table's order.
+pub fn trainings(lines: &[Line]) -> impl Iterator<Item = &Line> {
+    lines.iter().filter(|line| is_training(line))
+}
+
+/// The recordings that are stored with one set, in the table's order.
 pub fn of_set(lines: &[Line], set: u8) -> impl Iterator<Item = &Line> {
     lines.iter().filter(move |line| line.set == set)
 }
@@ -81,11 +95,11 @@ pub fn of_set(lines: &[Line], set: u8) -> impl Iterator<Item = &Line> {
 mod tests {
     use super::*;
 
-    /// All but the last, of which most are refused.
+    /// All but the one of which most are refused.
     #[test]
     fn classes_of_good_files() {
         let mut random = Random::new(6);
-        for class in &CLASSES[..CLASSES.len() - 1] {
+        for class in CLASSES[..OF_ANY_SETS].iter().chain(&CLASSES[OF_ANY_SETS + 1..]) {
             for _ in 0..100 {
                 assert!(lines_of(&class.file(&mut random)).is_ok(), "class '{}'", class.name());
             }

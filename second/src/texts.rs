@@ -36,7 +36,7 @@ pub const CLASSES: [Class; 21] = [
     Class("one recording of thousands of triangles", 9, made::very_long),
     Class("the largest that fit", 6, |r| good::largest(r).bytes()),
     Class("good files that readers are compared with", 50, |r| good_one(&files::CLASSES, r)),
-    Class("good files whose leaks are listed", 40, |r| good_one(&lists::CLASSES, r)),
+    Class("good files whose leaks are listed", 40, |r| good_one(&lists::CLASSES[..=lists::OF_ANY_SETS], r)),
     Class("a fault at a triangle of several recordings", 50, made::fault_at_a_triangle),
     Class("a fault at an entry of several", 40, made::fault_at_an_entry),
     Class("an id that is there twice", 20, made::id_twice),

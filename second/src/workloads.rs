@@ -23,7 +23,7 @@ const SEED: u64 = 77;
 pub const NAMES: [&str; 3] = ["random", "strips", "far"];
 /// Pairs of which one corner each is asked for.
 pub const CORNERS: [&str; 2] = ["corner-random", "corner-strips"];
-/// A file to judge, and the same one to write.
+/// A file to judge, and to write, with training in the place of what is held back in it.
 pub const FILE: &str = "file";
 pub const WRITE: &str = "write";
 
@@ -84,7 +84,8 @@ pub fn fold_verdict(sum: u64, verdict: Verdict) -> u64 {
 
 #[inline]
 pub fn fold_list(sum: u64, list: List) -> u64 {
-    let numbers = [list.number, list.place, list.length as u32, list.leaks, list.touching, list.tested];
+    let List { number, place, length, leaks, touching, tested, formerly_held_back } = list;
+    let numbers = [number, place, length as u32, leaks, touching, tested, formerly_held_back];
     numbers.iter().fold(sum, |sum, number| sum.rotate_left(7) ^ u64::from(*number).wrapping_add(1))
 }
 
@@ -99,7 +100,7 @@ pub fn largest_file() -> Vec<u8> {
     largest().bytes()
 }
 
-/// The lists that it is written from.
+/// The lists that it is written from, as far as a writer takes them: nothing is held back.
 pub fn largest_draft() -> drafts::draft::Draft {
     largest().into()
 }
@@ -153,6 +154,7 @@ fn near(u: &Triangle, v: &Triangle) -> bool {
 #[cfg(test)]
 mod tests {
     use super::*;
+    use crate::files::sets::as_training;
     use crate::footprint::{judge, MOST_BYTES};
     use crate::writer::write;
 
@@ -167,6 +169,7 @@ mod tests {
         let mut room = [46; MOST_BYTES];
         let written = write(largest_draft().handed(), &mut room);
         assert_eq!(written, Written { number: 0, place: 0, length: 65_532 });
-        assert_eq!((&room[..65_532], &room[65_532..]), (&largest_file()[..], &[46; 4][..]));
+        let file = as_training(&largest_file());
+        assert_eq!((&room[..65_532], &room[65_532..]), (&file[..], &[46; 4][..]));
     }
 }

@@ -4,7 +4,7 @@
 #[cfg(test)]
 mod worked;
 
-use crate::footprint::stored::{ENTRY, HELD_BACK, TRAILER, TRIANGLE};
+use crate::footprint::stored::{ENTRY, TEST, TRAILER, TRAINING, TRIANGLE};
 use crate::footprint::{FARTHEST, MOST_BYTES, MOST_RECORDINGS};
 
 /// Numbers of one triangle.
@@ -97,7 +97,7 @@ fn judge_lists(handed: Handed) -> Result<(), Reason> {
         if counts[k] == 0 {
             return Err(Reason::NoTriangles);
         }
-        if sets[k] > HELD_BACK {
+        if ![TRAINING, TEST].contains(&sets[k]) {
             return Err(Reason::Set);
         }
         if ids[..k].contains(id) {

@@ -124,7 +124,7 @@ calls =
     shownCall example 7 75 (oneOf vPolygon) 75 0
     ∷ shownCall example 7 78 (oneOf vPolygon) 75 3
     ∷ shownCall example 9 77 (oneOf uPolygon) 77 0
-    -- one recording of two triangles; held back; an id of four bytes
+    -- one recording of two triangles; one of set 2, with an id of four bytes
     ∷ shownCall double 7 140 (twoOf vPolygon uPolygon) 133 7
     ∷ shownCall (pairOf v far seven large) 67305985 100 (oneOf farPolygon) 89 11
     -- one recording of three triangles

@@ -1,6 +1,6 @@
 -- What lists are like that are not refused, fact by fact; and lists that are like that are not refused. Assumes nothing.
 use Prim.Native.Nat.{ℕ, zero, suc, _<_, _≤_}
-use mathlib.Core.Path.{_≡_, refl}
+use mathlib.Core.Path.{_≡_, refl, sym}
 use mathlib.Core.Logic.{_⊎_, inl, inr, ⊎-elim}
 use native.Mathlib.Omega.{arith}
 use native.Mathlib.Nat.{eq-zero-or-pos, eq-or-lt-of-le}
@@ -15,6 +15,13 @@ use Rattle.filing.specs.Fit.{Fit, WrittenExactlyIf, EntryPlainly}
 use Rattle.filing.proofs.Order.{sixes}
 use Rattle.filing.proofs.Rows.{exactly-when}
 
+-- a set that is neither 2 nor over 2
+pub known : (set : ℕ) → (set ≡ 2 → ⊥) → (2 < set → ⊥) → set ≤ 1
+known zero z m = omega arith
+known (suc zero) z m = omega arith
+known (suc (suc zero)) z m = absurd (z refl)
+known (suc (suc (suc n))) z m = absurd (m (omega arith))
+
 module _ (g : Given) (room : ℕ) where
   pub fits : refusal g room ≡ 0 → Fit g room
   unfolding entryOf
@@ -23,8 +30,8 @@ module _ (g : Given) (room : ℕ) where
         counts = same _ _ (λ n. none unequal (inl n));
         sets = same _ _ (λ n. none unequal (inr (inl n)));
         whole = same _ _ (λ n. none unequal (inr (inr (λ t e. n (sixes t (length (g .numbers)) e)))));
-        someTriangles = λ i l. ⊎-elim (λ z. absurd (none (badEntry i) (l, inl z))) (λ p. p) (eq-zero-or-pos (countAt g i));
-        knownSet = λ i l. at-most (setAt g i) 2 (λ m. none (badEntry i) (l, inr (inl m)));
+        someTriangles = λ i l. ⊎-elim (λ z. absurd (none (badEntry i) (l, inr (inl z)))) (λ p. p) (eq-zero-or-pos (countAt g i));
+        knownSet = λ i l. known (setAt g i) (λ z. none (badEntry i) (l, inl z)) (λ m. none (badEntry i) (l, inr (inr (inl m))));
         idsOnce = λ i j l m q. none (idAgain j) (m, (i, l, q));
         sum = same _ _ (none wrongSum);
         inRange = λ k l z m. at-most (natAbs z) 1000000 (λ n. none (outOfRange k) (l, (z, m, n)));
@@ -39,10 +46,11 @@ module _ (g : Given) (room : ℕ) where
   no-row f unequal (inl n) = n (f .counts)
   no-row f unequal (inr (inl n)) = n (f .sets)
   no-row f unequal (inr (inr n)) = n (triangles g) (f .whole)
-  no-row f (badEntry i) (h, inl c) = let a = f .someTriangles i h in omega arith
-  no-row f (badEntry i) (h, inr (inl c)) = let a = f .knownSet i h in omega arith
-  no-row f (badEntry i) (h, inr (inr (inl c))) = c refl
-  no-row f (badEntry i) (h, inr (inr (inr c))) = c refl
+  no-row f (badEntry i) (h, inl c) = let a = f .knownSet i h in omega arith
+  no-row f (badEntry i) (h, inr (inl c)) = let a = f .someTriangles i h in omega arith
+  no-row f (badEntry i) (h, inr (inr (inl c))) = let a = f .knownSet i h in omega arith
+  no-row f (badEntry i) (h, inr (inr (inr (inl c)))) = c refl
+  no-row f (badEntry i) (h, inr (inr (inr (inr c)))) = c refl
   no-row f (idAgain i) (h, c) = f .idsOnce (c .0) i (c .1) h (c .2)
   no-row f wrongSum n = n (f .sum)
   no-row f (outOfRange k) (h, c) = let a = f .inRange k h (c .0) (c .1) in let b = c .2 in omega arith
@@ -62,15 +70,20 @@ pub entry-plainly : EntryPlainly
 unfolding entryOf
 entry-plainly g room i = (to, from)
   where
-    to : Applies g room (badEntry i) → (i < recordings g) × ((countAt g i ≡ 0) ⊎ (2 < setAt g i))
-    to (h, inl c) = (h, inl c)
-    to (h, inr (inl c)) = (h, inr c)
-    to (h, inr (inr (inl c))) = absurd (c refl)
-    to (h, inr (inr (inr c))) = absurd (c refl)
+    to : Applies g room (badEntry i) → (i < recordings g) × ((countAt g i ≡ 0) ⊎ (1 < setAt g i))
+    to (h, inl c) = (h, inr (omega (arith, c)))
+    to (h, inr (inl c)) = (h, inl c)
+    to (h, inr (inr (inl c))) = (h, inr (omega (arith, c)))
+    to (h, inr (inr (inr (inl c)))) = absurd (c refl)
+    to (h, inr (inr (inr (inr c)))) = absurd (c refl)
 
-    from : (i < recordings g) × ((countAt g i ≡ 0) ⊎ (2 < setAt g i)) → Applies g room (badEntry i)
-    from (h, inl c) = (h, inl c)
-    from (h, inr c) = (h, inr (inl c))
+    -- a set over 1 is 2, or over 2
+    over : 1 < setAt g i → (setAt g i ≡ 2) ⊎ (2 < setAt g i)
+    over c = let le : 2 ≤ setAt g i = omega (arith, c) in ⊎-elim (λ q. inl (sym q)) (λ l. inr l) (eq-or-lt-of-le le)
+
+    from : (i < recordings g) × ((countAt g i ≡ 0) ⊎ (1 < setAt g i)) → Applies g room (badEntry i)
+    from (h, inl c) = (h, inr (inl c))
+    from (h, inr c) = (h, ⊎-elim (λ z. inl z) (λ l. inr (inr (inl l))) (over c))
 
 -- the sums go up to the last one
 pub sum-up : (g : Given) (n i : ℕ) → i ≤ n → sumTo g i ≤ sumTo g n

@@ -1,6 +1,7 @@
--- 02, No. 2, second statement: the lists that the reader finds in a good file make that file again. They are not refused, and the bytes of each number, each entry and the trailer are those that were read. Assumes nothing.
+-- 02, No. 2, second statement, with No. 7: the lists that the reader finds in a good file without set 2 make that file again. They are not refused, and the bytes of each number, each entry and the trailer are those that were read. Assumes nothing.
 use Prim.Native.Nat.{ℕ, zero, suc, _+_, _-_, _*_, _/_, _<_, _≤_}
 use mathlib.Core.Path.{_≡_, refl, sym, ap, ap₂, subst, _∙_}
+use mathlib.Core.Logic.{inl, inr}
 use mathlib.Core.List.{List, _++_, List·Memᴰ}
 use native.Mathlib.Omega.{arith}
 use lib.IntN.{pos}
@@ -19,6 +20,11 @@ use Rattle.filing.proofs.Bytes.{four-kept, bits-kept, entry-kept, three
 use Rattle.filing.proofs.Joined.{joined-front}
 use Rattle.filing.proofs.Read.{places, six}
 use Rattle.filing.specs.Fit.{Fit}
+use Rattle.filing.specs.Promise.{NoneRetired, SomeRetired}
+use Rattle.filing.specs.Refusals.{Row, unequal, badEntry, idAgain, wrongSum, outOfRange, flat, tooMany, noRoom, numberOf, refusal}
+use Rattle.filing.specs.Rows.{Applies, First}
+use Rattle.filing.proofs.Rows.{exactly-when}
+use Rattle.filing.proofs.Fit.{known}
 use Rattle.filing.proofs.Taken.{listed-length, listed-at, numbers-are, table-whole, id-is, count-is, set-is, taken-lengths}
 
 module _ (file : List ℕ) (l : Layout file) where
@@ -77,8 +83,8 @@ module _ (file : List ℕ) (l : Layout file) where
   length-is = let t = triangles-is in let n = n-is in let f = l .filled in omega (arith, t, n, f)
 
   -- ---- the lists are not refused in a room that holds the file
-  pub fit : (room : ℕ) → length file ≤ room → Fit (takenFrom file) room
-  fit room r =
+  pub fit : NoneRetired file → (room : ℕ) → length file ≤ room → Fit (takenFrom file) room
+  fit none room r =
       let t = triangles-is in
       let n = n-is in
       record {
@@ -86,7 +92,7 @@ module _ (file : List ℕ) (l : Layout file) where
         sets = taken-lengths file .2 ∙ sym n-is;
         whole = let w = table-whole file l in let e = w .1 in let m = numbers-length in omega (arith, e, m);
         someTriangles = λ i h. rw (count-is file l i (omega (arith, h, n))) (l .someTriangles i (omega (arith, h, n)));
-        knownSet = λ i h. rw (set-is file l i (omega (arith, h, n))) (l .knownSet i (omega (arith, h, n)));
+        knownSet = λ i h. rw (set-is file l i (omega (arith, h, n))) (known (entryAt file i .set) (none i (omega (arith, h, n))) (λ m. let k = l .knownSet i (omega (arith, h, n)) in omega (arith, k, m)));
         idsOnce = λ i j k h q. l .idsOnce i j k (omega (arith, h, n)) (sym (id-is file l i (omega (arith, k, h, n))) ∙ (q ∙ id-is file l j (omega (arith, h, n))));
         sum = let s = ap (λ m. 24 * sumTo (takenFrom file) m) n-is ∙ all-is in omega (arith, s, t);
         inRange = λ k h z m. l .inRange k (of-triangle k h) z (subst (λ x. List·Memᴰ z (numbersOf x)) (triangle-is k (of-triangle k h)) m);
@@ -95,6 +101,37 @@ module _ (file : List ℕ) (l : Layout file) where
         atMost65536 = omega (arith, length-is, l .atMost65536);
         inRoom = omega (arith, length-is, r);
       }
+
+  -- ---- with set 2 they are refused: the lists are of one length, no id comes twice, and what is said of entries is said before all else
+  module _ (room : ℕ) (old : SomeRetired file) where
+    its-row : Applies (takenFrom file) room (badEntry (old .0))
+    its-row = (omega (arith, old .1, n-is), inl (set-is file l (old .0) (old .1) ∙ old .2))
+
+    -- so the first row that applies is one of an entry, for its set
+    first-is : (row : Row) → First (takenFrom file) room row → numberOf row ≡ 14
+    first-is unequal f = absurd (lengths (f .applies))
+      where
+        lengths : Applies (takenFrom file) room unequal → ⊥
+        lengths (inl n) = n (taken-lengths file .1 ∙ sym n-is)
+        lengths (inr (inl n)) = n (taken-lengths file .2 ∙ sym n-is)
+        lengths (inr (inr n)) = n (tablePlace file / 24) (let w = table-whole file l in let e = w .1 in let m = numbers-length in omega (arith, e, m))
+    first-is (badEntry i) f = refl
+    first-is (idAgain i) f =
+        let a = f .applies in
+        let s = a .1 in
+        let h : i < countIn file = let b = a .0 in omega (arith, b, n-is) in
+        absurd (l .idsOnce (s .0) i (s .1) h (sym (id-is file l (s .0) (let b = s .1 in omega (arith, b, h))) ∙ (s .2 ∙ id-is file l i h)))
+    first-is wrongSum f = absurd (f .noneBefore (badEntry (old .0)) (inl (omega arith)) its-row)
+    first-is (outOfRange k) f = absurd (f .noneBefore (badEntry (old .0)) (inl (omega arith)) its-row)
+    first-is (flat k) f = absurd (f .noneBefore (badEntry (old .0)) (inl (omega arith)) its-row)
+    first-is tooMany f = absurd (f .noneBefore (badEntry (old .0)) (inl (omega arith)) its-row)
+    first-is noRoom f = absurd (f .noneBefore (badEntry (old .0)) (inl (omega arith)) its-row)
+
+    pub old-says : refusal (takenFrom file) room ≡ 14
+    old-says =
+        let w = exactly-when (takenFrom file) room in
+        let r = w .refusedBy (refusal (takenFrom file) room) .0 (refl, λ z. w .accepted .0 z (badEntry (old .0)) its-row) in
+        sym (r .2) ∙ first-is (r .0) (r .1)
 
   -- ---- and their bytes are the file's
   module _ (bytes : Bytes file) where

@@ -2,7 +2,7 @@
 use Prim.Native.Nat.{ℕ, zero, suc, _+_, _*_, _/_, _<_, _≤_}
 use mathlib.Core.Path.{_≡_, refl, sym, ap, ap₂, subst, _∙_}
 use mathlib.Core.Logic.{_⊎_, inl, ⊎-elim, _↔_}
-use mathlib.Core.Bool.{Bool, true, false, not, cond}
+use mathlib.Core.Bool.{Bool, true, false, not, _||_, cond}
 use mathlib.Core.List.{List, [], _∷_, _++_, List·Memᴰ, List·Memᴰ·head as here, List·Memᴰ·tail as there, List·Memᴰ·cases-cons, List·Memᴰ·not-nil, Memᴰ·append-left, Memᴰ·append-right, List·Memᴰ·append-cases}
 use native.Mathlib.Omega.{arith}
 use lib.Dec.{T, eqb}
@@ -10,11 +10,13 @@ use borrow.Author.Tests.{ne-eqb}
 use lib.ListN.{length}
 use Rattle.floats.specs.Turns.{inTurn}
 use Rattle.floats.proofs.Turns.{turn-listed, turn-members, Sorted, turn-sorted, turn-stage, late}
+use Rattle.sets.specs.Sets.{isRetired}
+use Rattle.sets.proofs.Sets.{all-roles}
 use Rattle.layout.specs.Rules.{isBadEntry, isSeen, isOutOfRange, isFlat, entryRule, triangleRule}
 use Rattle.layout.proofs.Tests.{Tells, less, other, either, both, only, entry-test, range-test, flat-test, seen-test}
-use Rattle.filing.specs.Given.{Given, recordings, triangles, idAt, sumOf, sumTo, entryOf, triangleIn}
+use Rattle.filing.specs.Given.{Given, recordings, triangles, idAt, setAt, sumOf, sumTo, entryOf, triangleIn}
 use Rattle.filing.specs.File.{fileLength}
-use Rattle.filing.specs.Refusals.{Row, unequal, badEntry, idAgain, wrongSum, outOfRange, flat, tooMany, noRoom, numberOf, numberIf, orElse, firstFrom, isUnequal, idsBefore, entryNumber, isWrongSum, triangleNumber, isTooMany, hasNoRoom, refusal}
+use Rattle.filing.specs.Refusals.{Row, unequal, badEntry, idAgain, wrongSum, outOfRange, flat, tooMany, noRoom, numberOf, numberIf, orElse, firstFrom, isUnequal, idsBefore, newEntryRule, entryNumber, isWrongSum, triangleNumber, isTooMany, hasNoRoom, refusal}
 use Rattle.filing.specs.Rows.{Applies, stageOf, turnOf}
 
 -- the numbers of the table
@@ -40,7 +42,7 @@ module _ (g : Given) (room : ℕ) where
   unfoldable pub test : Row → Bool
   unfolding entryOf sumOf idsBefore triangleIn isBadEntry isSeen isOutOfRange isFlat
   test unequal = isUnequal g
-  test (badEntry i) = isBadEntry (entryOf g i) (24 * sumTo g i)
+  test (badEntry i) = isRetired (setAt g i) || isBadEntry (entryOf g i) (24 * sumTo g i)
   test (idAgain i) = isSeen (idAt g i) (idsBefore (g .ids) i)
   test wrongSum = isWrongSum g
   test (outOfRange k) = isOutOfRange (triangleIn g k)
@@ -92,13 +94,22 @@ module _ (g : Given) (room : ℕ) where
   single row true rest = rw (ne-eqb (numberOf row) 0 (nonzero row)) refl
   single row false rest = refl
 
+  -- either reason for 14 comes to it
+  either-way : (s t : Bool) (n rest : ℕ) → cond s n (cond t n rest) ≡ cond (s || t) n rest
+  either-way true t n rest = refl
+  either-way false t n rest = refl
+
+  entry-told : (j : ℕ) → entryNumber g j ≡ cond (test (badEntry j)) 14 (cond (test (idAgain j)) 16 0)
+  unfolding test entryNumber newEntryRule entryRule entryOf
+  entry-told j = either-way (isRetired (setAt g j)) (isBadEntry (entryOf g j) (24 * sumTo g j)) 14 (cond (isSeen (idAt g j) (idsBefore (g .ids) j)) 16 0)
+
   pub by-rows : refusal g room ≡ firstOf rows
-  unfolding refusal rows triangleRows last firstOf test entryNumber triangleNumber entryRule triangleRule
+  unfolding refusal rows triangleRows last firstOf test triangleNumber triangleRule
   by-rows =
       let end : orElse (numberIf (isTooMany g) 13) (numberIf (hasNoRoom g room) 19) ≡ firstOf last = single tooMany (isTooMany g) (numberIf (hasNoRoom g room) 19) in
       let third = in-turn outOfRange flat (triangleNumber g) (λ j. refl) (triangles g) 0 _ last end in
       let sum = ap (orElse (numberIf (isWrongSum g) 15)) third ∙ single wrongSum (isWrongSum g) (firstOf triangleRows) in
-      let table = in-turn badEntry idAgain (entryNumber g) (λ j. refl) (recordings g) 0 _ (wrongSum ∷ triangleRows) sum in
+      let table = in-turn badEntry idAgain (entryNumber g) entry-told (recordings g) 0 _ (wrongSum ∷ triangleRows) sum in
       ap (orElse (numberIf (isUnequal g) 15)) table ∙ single unequal (isUnequal g) (firstOf (inTurn badEntry idAgain (recordings g) 0 ++ (wrongSum ∷ triangleRows)))
 
   -- ---- the rows that there are
@@ -125,7 +136,7 @@ module _ (g : Given) (room : ℕ) where
   pub told : (row : Row) → (Exists row × (test row ≡ true)) ↔ Applies g room row
   unfolding test
   told unequal = only (either (other (length (g .counts)) (recordings g)) (either (other (length (g .sets)) (recordings g)) whole-test))
-  told (badEntry i) = both (entry-test (entryOf g i) (24 * sumTo g i))
+  told (badEntry i) = both (either (all-roles (setAt g i) .retired) (entry-test (entryOf g i) (24 * sumTo g i)))
   told (idAgain i) = both (seen-before i (idAt g i))
   told wrongSum = only (other (sumTo g (recordings g)) (triangles g))
   told (outOfRange k) = both (range-test (triangleIn g k))

@@ -19,13 +19,13 @@ use Rattle.filing.specs.Refusals.{Row, numberOf, refusal}
 use Rattle.filing.specs.Rows.{Applies, First}
 use Rattle.filing.specs.Written.{notWritten, written}
 use Rattle.filing.specs.Taken.{takenFrom}
-use Rattle.filing.specs.Promise.{NoSecondWrite, WriteDemand1, WriteReturned, SameRecordings, WrittenIsAccepted, VeryBytes}
+use Rattle.filing.specs.Promise.{NoSecondWrite, WriteDemand1, WriteReturned, SameRecordings, WrittenIsAccepted, VeryBytes, OldIsRefused}
 use Rattle.filing.proofs.Order.{in-table}
 use Rattle.filing.proofs.Rows.{exactly-when}
 use Rattle.filing.proofs.Fit.{fits, not-refused}
 use Rattle.filing.proofs.Read.{file-length}
 use Rattle.filing.proofs.Accepted.{same-recordings}
-use Rattle.filing.proofs.Kept.{fit, length-is, very-bytes}
+use Rattle.filing.proofs.Kept.{fit, length-is, very-bytes, old-says}
 
 pub no-second-write : NoSecondWrite
 no-second-write g room r s a b p q = (p .result-is ∙ sym (q .result-is), p .after-is ∙ sym (q .after-is))
@@ -106,9 +106,16 @@ written-is-accepted g room r after ids p z =
     subst (SameRecordings g) (sym there) (same-recordings g (length room) (fits g (length room) none) ids)
 
 pub very-bytes-again : VeryBytes
-very-bytes-again file room r after bytes a h p =
+very-bytes-again file room r after bytes a none-old h p =
     let l = accepted-exactly-if file .0 a in
-    let none : refusal (takenFrom file) (length room) ≡ 0 = not-refused (takenFrom file) (length room) (fit file l (length room) h) in
+    let none : refusal (takenFrom file) (length room) ≡ 0 = not-refused (takenFrom file) (length room) (fit file l none-old (length room) h) in
     let z : r .number ≡ 0 = ap (λ (x : Written). x .number) (p .result-is) ∙ (number-is (takenFrom file) room ∙ none) in
     let d = write-returned (takenFrom file) room r after p in
     (z, d .length-is z .0 ∙ length-is file l, d .whole z ∙ very-bytes file l bytes)
+
+pub old-is-refused : OldIsRefused
+old-is-refused file room r after a some p =
+    let l = accepted-exactly-if file .0 a in
+    let n : r .number ≡ 14 = ap (λ (x : Written). x .number) (p .result-is) ∙ (number-is (takenFrom file) room ∙ old-says file l (length room) some) in
+    let z = write-returned (takenFrom file) room r after p .zeros (λ e. omega (arith, n, e)) in
+    (n, z .0, z .1)

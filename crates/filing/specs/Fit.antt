@@ -1,4 +1,4 @@
--- 02, No. 2: which lists are written, in facts about the lists and the room alone: the record has no word of refusals or of their order. Statements only.
+-- 02, No. 2 and No. 7: which lists are written, in facts about the lists and the room alone: the record has no word of refusals or of their order. Statements only.
 use Prim.Native.Nat.{ℕ, _+_, _*_, _<_, _≤_}
 use mathlib.Core.Path.{_≡_}
 use mathlib.Core.Logic.{_⊎_, _↔_}
@@ -17,9 +17,9 @@ pub record Fit (g : Given) (room : ℕ) : Type 0 where
   pub counts : length (g .counts) ≡ recordings g
   pub sets : length (g .sets) ≡ recordings g
   pub whole : 6 * triangles g ≡ length (g .numbers)
-  -- every recording has triangles, a set that there is, and an id of its own; the counts add up to the triangles
+  -- every recording has triangles, a set that is not retired (0 training, 1 test), and an id of its own; the counts add up to the triangles
   pub someTriangles : (i : ℕ) → i < recordings g → 0 < countAt g i
-  pub knownSet : (i : ℕ) → i < recordings g → setAt g i ≤ 2
+  pub knownSet : (i : ℕ) → i < recordings g → setAt g i ≤ 1
   pub idsOnce : (i j : ℕ) → i < j → j < recordings g → idAt g i ≡ idAt g j → ⊥
   pub sum : sumTo g (recordings g) ≡ triangles g
   -- of every triangle: its numbers are −1,000,000 to 1,000,000, and it has an area
@@ -34,6 +34,6 @@ pub record Fit (g : Given) (room : ℕ) : Type 0 where
 abbrev pub WrittenExactlyIf : Type 0
 WrittenExactlyIf = (g : Given) (room : ℕ) → (refusal g room ≡ 0) ↔ Fit g room
 
--- what 14 comes to for lists: a count of zero, or a set over 2
+-- what 14 comes to for lists: a count of zero, or a set over 1
 abbrev pub EntryPlainly : Type 0
-EntryPlainly = (g : Given) (room i : ℕ) → Applies g room (badEntry i) ↔ ((i < recordings g) × ((countAt g i ≡ 0) ⊎ (2 < setAt g i)))
+EntryPlainly = (g : Given) (room i : ℕ) → Applies g room (badEntry i) ↔ ((i < recordings g) × ((countAt g i ≡ 0) ⊎ (1 < setAt g i)))

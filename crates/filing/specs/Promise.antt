@@ -1,11 +1,11 @@
--- What the writer promises of its result and of the lent room, for all lists and all rooms; demand 1 of it, read off the promise; and 02's two statements. Statements only.
+-- What the writer promises of its result and of the lent room, for all lists and all rooms; demand 1 of it, read off the promise; and 02's two statements, the second as No. 7 has it. Statements only.
 use Prim.Native.Nat.{ℕ, _+_, _*_, _<_, _≤_}
 use mathlib.Core.Path.{_≡_}
 use mathlib.Core.Logic.{_↔_}
 use mathlib.Core.List.{List}
 use lib.ListN.{length, take, drop, getD}
 use Rattle.layout.specs.Bytes.{Bytes, i32At}
-use Rattle.layout.specs.Parts.{countOf as countIn}
+use Rattle.layout.specs.Parts.{countOf as countIn, entryAt}
 use Rattle.layout.specs.Verdict.{verdict, good}
 use Rattle.layout.specs.Recordings.{recordingOf, recordingBy, noRecording, noSuch, partOf}
 use Rattle.filing.specs.Given.{Given, recordings, countAt, coordinateAt, sumTo, entryOf}
@@ -64,6 +64,17 @@ pub record SameRecordings (g : Given) (file : List ℕ) : Type 0 where
 abbrev pub WrittenIsAccepted : Type 0
 WrittenIsAccepted = (g : Given) (room : List ℕ) (result : Written) (after : List ℕ) → Ids (g .ids) → WritePromise g room result after → result .number ≡ 0 → SameRecordings g (take (result .length) after)
 
--- the second: from the lists that the reader finds in a good file the writer makes that file again, byte for byte, in any room that holds it
+-- no recording of the file is stored with set 2; or one is
+abbrev pub NoneRetired : List ℕ → Type 0
+NoneRetired file = (i : ℕ) → i < countIn file → entryAt file i .set ≡ 2 → ⊥
+
+abbrev pub SomeRetired : List ℕ → Type 0
+SomeRetired file = (i : ℕ) × (i < countIn file) × (entryAt file i .set ≡ 2)
+
+-- the second: from the lists that the reader finds in a good file without set 2 the writer makes that file again, byte for byte, in any room that holds it
 abbrev pub VeryBytes : Type 0
-VeryBytes = (file room : List ℕ) (result : Written) (after : List ℕ) → Bytes file → verdict file ≡ good → length file ≤ length room → WritePromise (takenFrom file) room result after → (result .number ≡ 0) × (result .length ≡ length file) × (take (result .length) after ≡ file)
+VeryBytes = (file room : List ℕ) (result : Written) (after : List ℕ) → Bytes file → verdict file ≡ good → NoneRetired file → length file ≤ length room → WritePromise (takenFrom file) room result after → (result .number ≡ 0) × (result .length ≡ length file) × (take (result .length) after ≡ file)
+
+-- and of those that it finds in a good file with set 2 the writer says 14, whatever the room, which stays as it was
+abbrev pub OldIsRefused : Type 0
+OldIsRefused = (file room : List ℕ) (result : Written) (after : List ℕ) → verdict file ≡ good → SomeRetired file → WritePromise (takenFrom file) room result after → (result .number ≡ 14) × (result .length ≡ 0) × (after ≡ room)

@@ -1,10 +1,12 @@
--- 02, No. 2: the writer's refusals and their order. The rules of an entry and of a triangle are the reader's own, `entryRule` and `triangleRule`. Definitions only.
+-- 02, No. 2 and No. 7: the writer's refusals and their order. The rules of an entry and of a triangle are the reader's own, `entryRule` and `triangleRule`, but that no entry is written with the set that is retired. Definitions only.
 use Prim.Native.Nat.{ℕ, zero, suc, _+_, _*_}
 use mathlib.Core.Bool.{Bool, not, _||_, cond}
 use mathlib.Core.List.{List, [], _∷_}
 use lib.ListN.{length, getD}
 use lib.Dec.{eqb, ltb}
+use Rattle.layout.specs.declared.Entry.{Entry}
 use Rattle.layout.specs.Rules.{isSeen, entryRule, triangleRule}
+use Rattle.sets.specs.Sets.{isRetired}
 use Rattle.filing.specs.Given.{Given, recordings, triangles, idAt, sumOf, sumTo, entryOf, triangleIn}
 use Rattle.filing.specs.File.{fileLength}
 
@@ -47,15 +49,20 @@ unfoldable pub idsBefore : List ℕ → ℕ → List ℕ
 idsBefore ids zero = []
 idsBefore ids (suc i) = getD ids i 0 ∷ idsBefore ids i
 
+-- the number of an entry that is to be written: 14 for the set that is retired, else what the reader says
+unfoldable pub newEntryRule : Entry → ℕ → Bool → ℕ
+unfolding entryRule
+newEntryRule e end seen = cond (isRetired (e .set)) 14 (entryRule e end seen)
+
 module _ (g : Given) where
   -- 15 at once: the lists differ in length, or a triangle is broken off
   abbrev pub isUnequal : Bool
   isUnequal = not (eqb (length (g .counts)) (recordings g)) || (not (eqb (length (g .sets)) (recordings g)) || not (eqb (6 * triangles g) (length (g .numbers))))
 
-  -- 14, 16 or 0: recording i's entry by the reader's rule, behind entries that end where it begins
+  -- 14, 16 or 0: recording i's entry, behind entries that end where it begins
   unfoldable pub entryNumber : ℕ → ℕ
-  unfolding entryRule entryOf isSeen idsBefore
-  entryNumber i = entryRule (entryOf g i) (24 * sumTo g i) (isSeen (idAt g i) (idsBefore (g .ids) i))
+  unfolding newEntryRule entryOf isSeen idsBefore
+  entryNumber i = newEntryRule (entryOf g i) (24 * sumTo g i) (isSeen (idAt g i) (idsBefore (g .ids) i))
 
   -- 15 between the entries and the triangles: the sum of all counts is another than that of the triangles
   abbrev pub isWrongSum : Bool

@@ -5,7 +5,7 @@ use mathlib.Core.Logic.{_⊎_, _↔_}
 use lib.ListN.{length}
 use Rattle.floats.specs.Turns.{EarlierBy, FirstBy}
 use Rattle.layout.specs.Rows.{BadEntry, IdSeen, OutOfRange, Flat}
-use Rattle.filing.specs.Given.{Given, recordings, triangles, idAt, sumTo, entryOf, triangleIn}
+use Rattle.filing.specs.Given.{Given, recordings, triangles, idAt, setAt, sumTo, entryOf, triangleIn}
 use Rattle.filing.specs.File.{fileLength}
 use Rattle.filing.specs.Refusals.{Row, unequal, badEntry, idAgain, wrongSum, outOfRange, flat, tooMany, noRoom, numberOf, refusal}
 
@@ -13,10 +13,10 @@ use Rattle.filing.specs.Refusals.{Row, unequal, badEntry, idAgain, wrong
 abbrev pub Unequal : Given → Type 0
 Unequal g = (length (g .counts) ≡ length (g .ids) → ⊥) ⊎ (length (g .sets) ≡ length (g .ids) → ⊥) ⊎ ((t : ℕ) → 6 * t ≡ length (g .numbers) → ⊥)
 
--- the row applies to the lists and a room of so many bytes; a row of an entry or a triangle only if there is one. What is wrong with an entry or a triangle is what the reader says
+-- the row applies to the lists and a room of so many bytes; a row of an entry or a triangle only if there is one. What is wrong with an entry or a triangle is what the reader says, and with an entry also set 2
 abbrev pub Applies : Given → ℕ → Row → Type 0
 Applies g room unequal = Unequal g
-Applies g room (badEntry i) = (i < recordings g) × BadEntry (entryOf g i) (24 * sumTo g i)
+Applies g room (badEntry i) = (i < recordings g) × ((setAt g i ≡ 2) ⊎ BadEntry (entryOf g i) (24 * sumTo g i))
 Applies g room (idAgain i) = (i < recordings g) × IdSeen (idAt g) i
 Applies g room wrongSum = sumTo g (recordings g) ≡ triangles g → ⊥
 Applies g room (outOfRange k) = (6 * k + 6 ≤ length (g .numbers)) × OutOfRange (triangleIn g k)

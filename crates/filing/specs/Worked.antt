@@ -4,7 +4,7 @@ use mathlib.Core.Path.{_≡_}
 use mathlib.Core.List.{List, [], _∷_, _++_}
 use lib.IntN.{ℤ, pos, negsuc}
 use lib.ListN.{replicate}
-use Rattle.layout.specs.Worked.{trailer, pairOf, example, double, v as vBytes, far as farBytes, seven, large}
+use Rattle.layout.specs.Worked.{trailer, pairOf, example, double, v as vBytes, far as farBytes, seven}
 use Rattle.text.specs.declared.Written.{Written}
 use Rattle.filing.specs.Given.{Given, givenOf}
 use Rattle.filing.specs.Written.{written}
@@ -54,9 +54,16 @@ below = negsuc 1000000 ∷ pos 0 ∷ pos 4 ∷ pos 0 ∷ pos 0 ∷ pos 4 ∷ []
 abbrev pub least : List ℤ
 least = pos 1 ∷ pos 1 ∷ pos 1 ∷ pos 1 ∷ pos 1 ∷ negsuc 2147483647 ∷ []
 
+-- the entry of id 67,305,985, test, at 24
+abbrev pub largeTest : List ℕ
+largeTest = 1 ∷ 2 ∷ 3 ∷ 4 ∷ 24 ∷ 0 ∷ 0 ∷ 0 ∷ 1 ∷ 0 ∷ 1 ∷ 0 ∷ []
+
 -- ---- two recordings, 7 of training and 9 of test, and what is changed of them
 abbrev pub two : List ℤ → Given
 two numbers = givenOf (7 ∷ 9 ∷ []) (1 ∷ 1 ∷ []) (0 ∷ 1 ∷ []) numbers
+
+abbrev pub ofSets : ℕ → ℕ → Given
+ofSets a b = givenOf (7 ∷ 9 ∷ []) (1 ∷ 1 ∷ []) (a ∷ b ∷ []) (v ++ u)
 
 abbrev pub counted : ℕ → ℕ → Given
 counted a b = givenOf (7 ∷ 9 ∷ []) (a ∷ b ∷ []) (0 ∷ 1 ∷ []) (v ++ u)
@@ -66,9 +73,9 @@ unfoldable pub again : ℕ → List ℤ
 again zero = []
 again (suc n) = v ++ again n
 
--- n recordings of one triangle each with ids from 0 on, and one more with this id and this triangle
+-- n test recordings of one triangle each with ids from 0 on, and one more with this id and this triangle
 abbrev pub many : ℕ → ℕ → List ℤ → Given
-many n id triangle = givenOf (listed (λ i. i) n ++ (id ∷ [])) (replicate (n + 1) 1) (replicate (n + 1) 2) (again n ++ triangle)
+many n id triangle = givenOf (listed (λ i. i) n ++ (id ∷ [])) (replicate (n + 1) 1) (replicate (n + 1) 1) (again n ++ triangle)
 
 abbrev pub cases : List Case
 cases =
@@ -76,23 +83,29 @@ cases =
     writtenLists (givenOf [] [] [] []) (trailer 0 0 12) 12 2 14
     ∷ writtenLists (givenOf [] [] [] []) (trailer 0 0 12) 12 0 12
     ∷ refusedLists (givenOf [] [] [] []) 11 19
-    -- two recordings, one of two triangles, and one with a large id, held back, at the ends of the range
+    -- two recordings, one of two triangles, and one with a large id at the ends of the range
     ∷ writtenLists (two (v ++ u)) example 84 0 84
     ∷ writtenLists (two (v ++ u)) example 84 3 87
     ∷ writtenLists (givenOf (7 ∷ []) (2 ∷ []) (0 ∷ []) (v ++ u)) double 72 0 72
-    ∷ writtenLists (givenOf (7 ∷ 67305985 ∷ []) (1 ∷ 1 ∷ []) (0 ∷ 2 ∷ []) (v ++ far)) (pairOf vBytes farBytes seven large) 84 1 85
+    ∷ writtenLists (givenOf (7 ∷ 67305985 ∷ []) (1 ∷ 1 ∷ []) (0 ∷ 1 ∷ []) (v ++ far)) (pairOf vBytes farBytes seven largeTest) 84 1 85
     -- 15 at once, whatever else is wrong: each list is the odd one, and a triangle is broken off
     ∷ refusedLists (givenOf (7 ∷ 7 ∷ 9 ∷ []) (0 ∷ 1 ∷ []) (3 ∷ 1 ∷ []) onALine) 0 15
     ∷ refusedLists (givenOf (7 ∷ 7 ∷ []) (0 ∷ []) (3 ∷ 1 ∷ []) above) 0 15
-    ∷ refusedLists (givenOf (7 ∷ 7 ∷ []) (0 ∷ 1 ∷ []) (3 ∷ 1 ∷ 1 ∷ []) above) 0 15
+    ∷ refusedLists (givenOf (7 ∷ 7 ∷ []) (0 ∷ 1 ∷ []) (2 ∷ 1 ∷ 1 ∷ []) above) 0 15
     ∷ refusedLists (two (v ++ (u ++ (pos 1 ∷ [])))) 84 15
     ∷ refusedLists (givenOf [] [] [] (pos 1 ∷ pos 2 ∷ pos 3 ∷ pos 4 ∷ pos 5 ∷ [])) 12 15
     -- 14: no triangles, a set that there is not; before 16 of the same entry, after 16 of an earlier one
     ∷ refusedLists (counted 0 2) 84 14
-    ∷ refusedLists (givenOf (7 ∷ 9 ∷ []) (1 ∷ 1 ∷ []) (0 ∷ 3 ∷ []) (v ++ u)) 84 14
-    ∷ refusedLists (givenOf (7 ∷ 9 ∷ []) (1 ∷ 1 ∷ []) (128 ∷ 1 ∷ []) (v ++ u)) 84 14
+    ∷ refusedLists (ofSets 0 3) 84 14
+    ∷ refusedLists (ofSets 128 1) 84 14
     ∷ refusedLists (givenOf (7 ∷ 7 ∷ []) (1 ∷ 0 ∷ []) (0 ∷ 1 ∷ []) (v ++ u)) 84 14
     ∷ refusedLists (givenOf (7 ∷ 7 ∷ 9 ∷ []) (1 ∷ 1 ∷ 0 ∷ []) (0 ∷ 1 ∷ 1 ∷ []) (v ++ u)) 84 16
+    -- 14 for the set that is retired, in every entry; before 16 of the same entry and before 15, after 16 of an earlier one
+    ∷ refusedLists (ofSets 2 1) 84 14
+    ∷ refusedLists (ofSets 0 2) 84 14
+    ∷ refusedLists (givenOf (7 ∷ 7 ∷ []) (1 ∷ 1 ∷ []) (0 ∷ 2 ∷ []) (v ++ u)) 84 14
+    ∷ refusedLists (givenOf (7 ∷ 9 ∷ []) (1 ∷ 5 ∷ []) (0 ∷ 2 ∷ []) (v ++ u)) 84 14
+    ∷ refusedLists (givenOf (7 ∷ 7 ∷ 9 ∷ []) (1 ∷ 1 ∷ 1 ∷ []) (0 ∷ 1 ∷ 2 ∷ []) (v ++ (u ++ v))) 200 16
     -- 16, of an id that is not the previous one too, and before 15
     ∷ refusedLists (givenOf (7 ∷ 9 ∷ 7 ∷ []) (1 ∷ 1 ∷ 1 ∷ []) (0 ∷ 1 ∷ 0 ∷ []) (v ++ (u ++ v))) 200 16
     ∷ refusedLists (givenOf (7 ∷ 7 ∷ []) (1 ∷ 5 ∷ []) (0 ∷ 1 ∷ []) (v ++ u)) 84 16
@@ -116,10 +129,10 @@ cases =
     ∷ refusedLists (many 64 64 onALine) 0 18
     ∷ refusedLists (many 64 64 v) 0 13
     ∷ refusedLists (many 64 64 v) 3000 13
-    -- 66 recordings: an id again, a set that there is not and a count of zero behind the 65th, each before 13
+    -- 66 recordings: an id again, the set that is retired and a count of zero behind the 65th, each before 13
     ∷ refusedLists (many 65 64 v) 0 16
-    ∷ refusedLists (givenOf (listed (λ i. i) 66) (replicate 66 1) (replicate 65 2 ++ (3 ∷ [])) (again 66)) 0 14
-    ∷ refusedLists (givenOf (listed (λ i. i) 66) (replicate 65 1 ++ (0 ∷ [])) (replicate 66 2) (again 65)) 0 14
+    ∷ refusedLists (givenOf (listed (λ i. i) 66) (replicate 66 1) (replicate 65 1 ++ (2 ∷ [])) (again 66)) 0 14
+    ∷ refusedLists (givenOf (listed (λ i. i) 66) (replicate 65 1 ++ (0 ∷ [])) (replicate 66 1) (again 65)) 0 14
     -- 64 recordings are not too many: 19 in a room of 2,315 bytes, one too few
     ∷ refusedLists (many 63 63 v) 2315 19
     -- a room that is a byte too short

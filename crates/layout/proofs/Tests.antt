@@ -64,10 +64,10 @@ pub only : {b : Bool} {P : Type 0} → Tells b P → (T true × (b ≡ true)) �
 only t = ((λ w. t .0 (w .1)), (λ p. (tt, t .1 p)))
 
 -- one of a list passes
-abbrev One : {A : Type 0} → (A → Bool) → List A → Type 0
+abbrev pub One : {A : Type 0} → (A → Bool) → List A → Type 0
 One {A} f xs = (x : A) × List·Memᴰ x xs × (f x ≡ true)
 
-some-to : {A : Type 0} (f : A → Bool) (xs : List A) → any f xs ≡ true → One f xs
+pub some-to : {A : Type 0} (f : A → Bool) (xs : List A) → any f xs ≡ true → One f xs
 unfolding any
 some-to f [] h = absurd (false≢true h)
 some-to {A} f (y ∷ ys) h = go (f y) refl h (some-to f ys)
@@ -76,7 +76,7 @@ some-to {A} f (y ∷ ys) h = go (f y) refl h (some-to f ys)
     go true e h rest = (y, here refl, e)
     go false e h rest = let w = rest h in (w .0, there (w .1), w .2)
 
-some-from : {A : Type 0} (f : A → Bool) (xs : List A) {x : A} → List·Memᴰ x xs → f x ≡ true → any f xs ≡ true
+pub some-from : {A : Type 0} (f : A → Bool) (xs : List A) {x : A} → List·Memᴰ x xs → f x ≡ true → any f xs ≡ true
 unfolding any
 some-from f [] m e = absurd (List·Memᴰ·not-nil m)
 some-from f (y ∷ ys) {x} m e = go (List·Memᴰ·cases-cons m) (λ k. some-from f ys k e)

@@ -17,7 +17,7 @@ pub record Layout (file : List ℕ) : Type 0 where
   -- at most 64 recordings; triangles, table and trailer fill the file
   pub atMost64 : countOf file ≤ 64
   pub filled : tablePlace file + 12 * countOf file + 12 ≡ length file
-  -- every entry has triangles, a set that there is (0 training, 1 test, 2 held back), and a last byte of zero
+  -- every entry has triangles, a set that there is (0 training, 1 test, 2 in old files), and a last byte of zero
   pub someTriangles : (i : ℕ) → i < countOf file → 0 < entryAt file i .count
   pub knownSet : (i : ℕ) → i < countOf file → entryAt file i .set ≤ 2
   pub lastZero : (i : ℕ) → i < countOf file → entryAt file i .last ≡ 0

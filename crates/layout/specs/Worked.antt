@@ -75,7 +75,7 @@ seven = 7 ∷ 0 ∷ 0 ∷ 0 ∷ 0 ∷ 0 ∷ 0 ∷ 0 ∷ 1 ∷ 0 ∷ 0 ∷ 0 ∷ 
 abbrev pub nine : List ℕ
 nine = 9 ∷ 0 ∷ 0 ∷ 0 ∷ 24 ∷ 0 ∷ 0 ∷ 0 ∷ 1 ∷ 0 ∷ 1 ∷ 0 ∷ []
 
--- id 67,305,985, held back
+-- id 67,305,985, with set 2
 abbrev pub large : List ℕ
 large = 1 ∷ 2 ∷ 3 ∷ 4 ∷ 24 ∷ 0 ∷ 0 ∷ 0 ∷ 1 ∷ 0 ∷ 2 ∷ 0 ∷ []
 

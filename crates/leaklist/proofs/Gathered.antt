@@ -5,11 +5,10 @@ use mathlib.Core.Bool.{Bool, true, false, cond}
 use mathlib.Core.List.{List, [], _∷_, _++_, map, append-assoc, append-nil, List·Memᴰ, List·Memᴰ·head as here, List·Memᴰ·tail as there}
 use native.Mathlib.Omega.{arith}
 use native.Mathlib.Numerals.{add-one}
-use borrow.Author.Tests.{eq-eqb, ne-eqb}
 use lib.ListN.{length}
 use lib.Ieee.{Float}
-use Rattle.floats.specs.Lists.{filter, once}
-use Rattle.floats.proofs.Lists.{filter-append}
+use Rattle.floats.specs.Lists.{filter, count, once}
+use Rattle.floats.proofs.Lists.{filter-append, count-append}
 use Rattle.floats.specs.Finite.{finite}
 use Rattle.floats.proofs.Lists.{so, os, all-at}
 use Rattle.shapes.specs.declared.Shape.{Shape}
@@ -19,7 +18,7 @@ use Rattle.boxes.specs.Boxes.{sharePoint}
 use Rattle.boxed.specs.Tables.{boxIn, boxOver}
 use Rattle.centimetres.proofs.Pair.{values, values-finite}
 use Rattle.layout.specs.declared.Entry.{Entry}
-use Rattle.layout.specs.Bytes.{u32At}
+use Rattle.layout.specs.Bytes.{byteAt, u32At}
 use Rattle.layout.specs.Parts.{numbersOf, tablePlace, countOf, entryFrom, entryPlace, entryAt, triangleFrom, triangleAt, trianglesOf}
 use Rattle.layout.specs.Layout.{Layout}
 use Rattle.layout.specs.Recordings.{f64At}
@@ -27,12 +26,13 @@ use Rattle.layout.specs.Inside.{Inside}
 use Rattle.layout.proofs.Inside.{parts-inside}
 use Rattle.listing.specs.declared.Tally.{Tally}
 use Rattle.listing.specs.Turns.{upTo, each, folded}
-use Rattle.listing.specs.Pairs.{isTest, isTraining, placeIn, coordinatesAt, valuesAt, trianglePairs, noneYet, tallied, tallyOf, onlyTouch}
-use Rattle.listing.specs.Leaks.{Leak, tests, trainings, recordingPairs, tallyFor, isLeak, leakPairs, leakOf, leaks, isTouching, touchingPairs, touching}
-use Rattle.listing.proofs.Turns.{below, map-append, each-append, sum-from}
+use Rattle.sets.specs.Sets.{isTest, isTraining, isRetired}
+use Rattle.listing.specs.Pairs.{placeIn, coordinatesAt, valuesAt, trianglePairs, noneYet, tallied, tallyOf, onlyTouch}
+use Rattle.listing.specs.Leaks.{Leak, tests, trainings, recordingPairs, tallyFor, isLeak, leakPairs, leakOf, leaks, isTouching, touchingPairs, touching, formerly, formerlyHeldBack}
+use Rattle.listing.proofs.Turns.{below, map-append, map-same-in, each-append, filter-count, sum-from}
 use Rattle.listing.proofs.Demand.{tested-walked}
 use Rattle.writing.specs.Triples.{leaksIn}
-use Rattle.leaklist.specs.Code.{shapeFrom, Prepared, Framed, Owned, ReadyAt, ReadyFrom, valuesIn, rowIn, tallyIn, Gathering, Found, foundIn, nothing, together, leakOn, foundOn, foundFor, itemOf, rowTo, testOf, listTo, foundByRules}
+use Rattle.leaklist.specs.Code.{shapeFrom, Prepared, Framed, Owned, ReadyAt, ReadyFrom, valuesIn, rowIn, tallyIn, Gathering, Found, foundIn, nothing, together, leakOn, foundOn, foundFor, itemOf, rowTo, testOf, listTo, formerlyTo, foundByRules}
 use Rattle.leaklist.proofs.Counted.{tally-far}
 
 -- ---- the recording's triangles by number
@@ -89,10 +89,6 @@ module _ (file : List ℕ) (table bounds own : List Float) (g : Gathering file t
   values-are : (p q : ℕ) → p < trianglesOf file → q < trianglesOf file → valuesIn table p q ≡ coordinatesAt file (24 * p) ++ coordinatesAt file (24 * q)
   values-are p q h k = ap₂ twelve (g .prepared p h) (g .prepared q k) ∙ twelve-from file (24 * p) (24 * q)
 
-map-same : {A B : Type 0} (f h : A → B) (xs : List A) → ((x : A) → List·Memᴰ x xs → f x ≡ h x) → map f xs ≡ map h xs
-map-same f h [] same = refl
-map-same f h (x ∷ xs) same = ap₂ _∷_ (same x (here refl)) (map-same f h xs (λ y m. same y (there m)))
-
 each-same : {A B : Type 0} (f h : A → List B) (xs : List A) → ((x : A) → List·Memᴰ x xs → f x ≡ h x) → each f xs ≡ each h xs
 unfolding each
 each-same f h [] same = refl
@@ -128,7 +124,7 @@ module _ (file : List ℕ) (table bounds own : List Float) (g : Gathering file t
   row-is : (a : ℕ) → a < test .count → rowIn table (test .first / 24 + a) (train .first / 24) (train .count) ≡ map valuesOf (map (λ b. (a, b)) (upTo (train .count)))
   unfolding rowIn
   row-is a h =
-      map-same (λ b. valuesIn table (test .first / 24 + a) (train .first / 24 + b)) (valuesAt file test train a) (upTo (train .count)) (λ b m. pair-is a b h (below (train .count) m))
+      map-same-in (λ b. valuesIn table (test .first / 24 + a) (train .first / 24 + b)) (valuesAt file test train a) (upTo (train .count)) (λ b m. pair-is a b h (below (train .count) m))
       ∙ sym (map-map valuesOf (λ b. (a, b)) (upTo (train .count)))
 
   -- what is counted from the table is what is counted from the file
@@ -184,23 +180,27 @@ none-before a = found-same refl (omega arith) (omega arith)
 
 -- ---- pair by pair
 module _ (file : List ℕ) (i j : ℕ) where
-  pub no-item : {f : Entry} → f ≡ entryAt file j → (f .set ≡ 0 → ⊥) → nothing ≡ itemOf file i j
+  -- whether it is with a training recording, as the code asks
+  in-item : {f : Entry} {b x : Bool} → f ≡ entryAt file j → b ≡ isTraining (f .set) → b ≡ x → itemOf file i j ≡ cond x (foundFor file (i, j)) nothing
   unfolding itemOf
-  no-item h z = sym (rw (ne-eqb (entryAt file j .set) 0 (λ e. z (ap (λ x. x .set) h ∙ e))) refl)
+  in-item hf hb z = ap (λ y. cond y (foundFor file (i, j)) nothing) (ap (λ f. isTraining (f .set)) (sym hf) ∙ (sym hb ∙ z))
 
-  pub an-item : {e f : Entry} {t : Tally} → e ≡ entryAt file i → f ≡ entryAt file j → f .set ≡ 0 → t ≡ tallyFor file (i, j) → foundOn (e .id) (f .id) t ≡ itemOf file i j
-  unfolding itemOf foundFor
-  an-item {e} {f} {t} he hf z ht = rw (he, hf, ht, eq-eqb (entryAt file j .set) 0 (ap (λ x. x .set) (sym hf) ∙ z)) refl
+  pub no-item : {f : Entry} {b : Bool} → f ≡ entryAt file j → b ≡ isTraining (f .set) → b ≡ false → nothing ≡ itemOf file i j
+  no-item hf hb z = sym (in-item hf hb z)
+
+  pub an-item : {e f : Entry} {b : Bool} {t : Tally} → e ≡ entryAt file i → f ≡ entryAt file j → b ≡ isTraining (f .set) → b ≡ true → t ≡ tallyFor file (i, j) → foundOn (e .id) (f .id) t ≡ itemOf file i j
+  unfolding foundFor
+  an-item he hf hb z ht = rw (he, hf, ht) (sym (in-item refl (hb ∙ ap (λ f. isTraining (f .set)) hf) z))
 
   -- how many of its triangle pairs were given to the triangle rules
-  pub item-tested : {f : Entry} {t : Tally} → f ≡ entryAt file j → f .set ≡ 0 → t ≡ tallyFor file (i, j) → t .tested ≡ itemOf file i j .tested
-  unfolding itemOf foundFor
-  item-tested {f} {t} hf z ht = ap (λ x. x .tested) ht ∙ sym (rw (eq-eqb (entryAt file j .set) 0 (ap (λ x. x .set) (sym hf) ∙ z)) refl)
+  pub item-tested : {f : Entry} {b : Bool} {t : Tally} → f ≡ entryAt file j → b ≡ isTraining (f .set) → b ≡ true → t ≡ tallyFor file (i, j) → t .tested ≡ itemOf file i j .tested
+  unfolding foundFor
+  item-tested hf hb z ht = ap (λ x. x .tested) ht ∙ ap (λ x. x .tested) (sym (in-item hf hb z))
 
   -- nothing, where nothing is counted of the two
   pub empty-item : tallyFor file (i, j) ≡ noneYet → nothing ≡ itemOf file i j
   unfolding itemOf foundFor
-  empty-item h = rw h (go (isTraining (entryAt file j)))
+  empty-item h = rw h (go (isTraining (entryAt file j .set)))
     where
       go : (b : Bool) → nothing ≡ cond b (foundOn (entryAt file i .id) (entryAt file j .id) noneYet) nothing
       go true = refl
@@ -224,17 +224,10 @@ row-turn file i j a p q = q ∙ (ap (λ x. together x (itemOf file i j)) p ∙ (
     last : together (rowTo file i j) (itemOf file i j) ≡ rowTo file i (suc j)
     last = unfold rowTo in refl
 
-pub no-test : (file : List ℕ) (i : ℕ) {e : Entry} → e ≡ entryAt file i → (e .set ≡ 1 → ⊥) → nothing ≡ testOf file i
+-- whether there is a row, as the code asks
+pub row-if : (file : List ℕ) (i : ℕ) {e : Entry} {b x : Bool} → e ≡ entryAt file i → b ≡ isTest (e .set) → b ≡ x → testOf file i ≡ cond x (rowTo file i (countOf file)) nothing
 unfolding testOf
-no-test file i h z = sym (rw (ne-eqb (entryAt file i .set) 1 (λ q. z (ap (λ x. x .set) h ∙ q))) refl)
-
-pub a-test : (file : List ℕ) (i : ℕ) (a : Found) {e : Entry} {b : Found} → e ≡ entryAt file i → e .set ≡ 1 → b ≡ together a (rowTo file i (countOf file)) → b ≡ together a (testOf file i)
-unfolding testOf
-a-test file i a h z p = p ∙ ap (together a) (sym (rw (eq-eqb (entryAt file i .set) 1 (ap (λ x. x .set) (sym h) ∙ z)) refl))
-
-pub test-tested : (file : List ℕ) (i : ℕ) {e : Entry} → e ≡ entryAt file i → e .set ≡ 1 → rowTo file i (countOf file) .tested ≡ testOf file i .tested
-unfolding testOf
-test-tested file i h z = sym (rw (eq-eqb (entryAt file i .set) 1 (ap (λ x. x .set) (sym h) ∙ z)) refl)
+row-if file i h hb z = ap (λ y. cond y (rowTo file i (countOf file)) nothing) (ap (λ e. isTest (e .set)) (sym h) ∙ (sym hb ∙ z))
 
 pub list-none : (file found : List ℕ) → foundIn found (record { leaks = 0; touching = 0; tested = 0 }) ≡ listTo file 0
 unfolding leaksIn listTo
@@ -283,10 +276,10 @@ module _ (file : List ℕ) where
       go false false = found-same refl (omega arith) more
 
   abbrev trainingAt : ℕ → Bool
-  trainingAt j = isTraining (entryAt file j)
+  trainingAt j = isTraining (entryAt file j .set)
 
   abbrev testAt : ℕ → Bool
-  testAt i = isTest (entryAt file i)
+  testAt i = isTest (entryAt file i .set)
 
   -- recording i with these
   abbrev pairsWith : ℕ → List ℕ → List (ℕ × ℕ)
@@ -334,6 +327,24 @@ module _ (file : List ℕ) where
 
   pub gathered : listTo file (countOf file) ≡ foundByRules file
   gathered = by-walk ∙ found-same refl refl (sym (tested-walked file))
+
+-- ---- recording by recording, how many were formerly held back
+pub formerly-none : (file : List ℕ) → 0 ≡ formerlyTo file 0
+unfolding formerlyTo upTo count
+formerly-none file = refl
+
+-- an entry's set as it is read
+pub set-is : (file : List ℕ) (k at : ℕ) {set : ℕ} → at ≡ tablePlace file → set ≡ byteAt file (at + 12 * k + 10) → set ≡ entryAt file k .set
+unfolding entryAt entryFrom entryPlace
+set-is file k at h p = p ∙ ap (λ t. byteAt file (t + 12 * k + 10)) h
+
+pub formerly-turn : (file : List ℕ) (k : ℕ) {b : Bool} {sum one : ℕ} → sum ≡ formerlyTo file k → b ≡ isRetired (entryAt file k .set) → one ≡ once b → sum + one ≡ formerlyTo file (k + 1)
+unfolding formerlyTo upTo count
+formerly-turn file k p r s = ap₂ _+_ p (s ∙ ap once r) ∙ (sym (count-append (λ j. isRetired (entryAt file j .set)) (upTo k) (k ∷ [])) ∙ ap (formerlyTo file) (sym (add-one k)))
+
+pub formerly-all : (file : List ℕ) → formerlyTo file (countOf file) ≡ formerlyHeldBack file
+unfolding formerlyTo formerlyHeldBack formerly
+formerly-all file = sym (filter-count (λ k. isRetired (entryAt file k .set)) (upTo (countOf file)))
 
 -- ---- the trailer's numbers as they are read
 pub table-read : (file : List ℕ) {at : ℕ} → at ≡ u32At file (length file - 12) → at ≡ tablePlace file

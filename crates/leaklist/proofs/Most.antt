@@ -8,7 +8,8 @@ use native.Mathlib.Nat.{mul-comm, mul-assoc, mul-add, add-mul, mul-le-mul, mul-l
 use Rattle.layout.specs.Parts.{tablePlace, countOf, entryAt, partEnd, endBefore}
 use Rattle.layout.specs.Layout.{Layout}
 use Rattle.layout.proofs.Inside.{parts-inside, starts}
-use Rattle.listing.specs.Pairs.{isTest, isTraining, nearAt, trianglePairs}
+use Rattle.sets.specs.Sets.{isTest, isTraining}
+use Rattle.listing.specs.Pairs.{nearAt, trianglePairs}
 use Rattle.listing.specs.Leaks.{tallyFor}
 use Rattle.listing.proofs.Tallied.{tally-tested, pairs-length}
 use Rattle.listing.proofs.Enough.{count-most}
@@ -28,7 +29,7 @@ module _ (file : List ℕ) where
 
   item-most : (i j : ℕ) → itemOf file i j .tested ≤ entryAt file i .count * entryAt file j .count
   unfolding itemOf foundFor
-  item-most i j = go (isTraining (entryAt file j))
+  item-most i j = go (isTraining (entryAt file j .set))
     where
       go : (b : Bool) → cond b (foundFor file (i, j)) nothing .tested ≤ entryAt file i .count * entryAt file j .count
       go true = two-most i j
@@ -63,7 +64,7 @@ module _ (file : List ℕ) where
 
     test-most : (i : ℕ) → 24 * testOf file i .tested ≤ entryAt file i .count * 65536
     unfolding testOf
-    test-most i = go (isTest (entryAt file i))
+    test-most i = go (isTest (entryAt file i .set))
       where
         go : (b : Bool) → 24 * cond b (rowTo file i (countOf file)) nothing .tested ≤ entryAt file i .count * 65536
         go true = let r = row-most i (countOf file) (omega arith) in let m = mul-le-mul-left (entryAt file i .count) (end-most (countOf file) (omega arith)) in omega (arith, r, m)

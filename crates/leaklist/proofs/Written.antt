@@ -13,7 +13,7 @@ use Rattle.layout.specs.Layout.{Layout}
 use Rattle.layout.proofs.Returned.{is-good}
 use Rattle.listing.specs.declared.Listed.{Listed}
 use Rattle.listing.specs.declared.Counts.{Counts}
-use Rattle.listing.specs.Leaks.{touching, tested, beside}
+use Rattle.listing.specs.Leaks.{touching, tested, formerlyHeldBack, beside}
 use Rattle.listing.specs.Words.{listText, refusedLine}
 use Rattle.listing.specs.Listing.{noList, listFrom, listOf}
 use Rattle.listing.specs.Promise.{ListPromise}
@@ -23,8 +23,8 @@ use Rattle.writing.proofs.Written.{held-all}
 use Rattle.leaklist.specs.Code.{foundIn, foundByRules, toldOf}
 
 -- ---- the list of a good file
-pub keeps : (file room found : List ℕ) (c : Counts) {r : Listed} {after : List ℕ} → Layout file → foundIn found c ≡ foundByRules file → WrittenAs (leaksIn found (heldIn found (c .leaks))) (besideIn c) room r after → c .leaks ≤ 4096 → length found ≡ 12288 → ListPromise file room r after
-keeps file room found c {r} {after} good h w most size =
+pub keeps : (file room found : List ℕ) (c : Counts) (formerly : ℕ) {r : Listed} {after : List ℕ} → Layout file → foundIn found c ≡ foundByRules file → WrittenAs (leaksIn found (heldIn found (c .leaks))) (besideIn c formerly) room r after → formerly ≡ formerlyHeldBack file → c .leaks ≤ 4096 → length found ≡ 12288 → ListPromise file room r after
+keeps file room found c formerly {r} {after} good h w old most size =
     let s = past-file file room (is-good file good) in
     let ls = ap (leaksIn found) (held-all found (c .leaks) most (omega (arith, most, size))) ∙ ap (λ f. f .leaks) h in
     let t = beside-is (ap (λ f. f .touching) h) (ap (λ f. f .tested) h) in
@@ -33,8 +33,8 @@ keeps file room found c {r} {after} good h w most size =
       after-is = w .after-is ∙ (ap₂ (λ l n. listFrom l n room .room) ls t ∙ ap (λ v. v .room) (sym s));
     }
   where
-    beside-is : c .touching ≡ touching file → c .tested ≡ tested file → besideIn c ≡ beside file
-    beside-is p q = unfold beside in rw (p, q) refl
+    beside-is : c .touching ≡ touching file → c .tested ≡ tested file → besideIn c formerly ≡ beside file
+    beside-is p q = unfold beside in rw (p, q, old) refl
 
 -- ---- a refused file
 pub keeps-refusal : (file room : List ℕ) {v : Verdict} {r : Listed} → v ≡ verdict file → (v .number ≡ 0 → ⊥) → r ≡ noList [] (numberAt (v .number) (v .place)) .result → ListPromise file room r room
@@ -53,7 +53,7 @@ told-yes file room z = sym (rw (eq-eqb (listOf file room .result .number) 0 z) r
 
 pub told-refused : (file room : List ℕ) {a : Listed} {mid after : List ℕ} {r : ℕ} → ListPromise file room a mid → (a .number ≡ 0 → ⊥) → Put mid 0 (refusedLine (numberAt (a .number) (a .place))) after r → Put room 0 (toldOf file room) after r
 told-refused file room {a} {mid} {after} {r} p n q =
-    let same = returned-one file room a mid p .zeros n .4 in
+    let same = returned-one file room a mid p .zeros n .5 in
     subst (λ t. Put room 0 t after r) (told-no file room (p .result-is) n) (subst (λ m. Put m 0 (refusedLine (numberAt (a .number) (a .place))) after r) same q)
 
 pub told-list : (file room : List ℕ) {a : Listed} {after : List ℕ} → ListPromise file room a after → a .number ≡ 0 → Put room 0 (toldOf file room) after (a .length)

@@ -19,11 +19,12 @@ use Rattle.layout.specs.Parts.{countOf, entryAt, trianglesOf}
 use Rattle.layout.specs.Layout.{Layout}
 use Rattle.layout.specs.Recordings.{f64At}
 use Rattle.layout.specs.Verdict.{numberAt}
-use Rattle.floats.specs.Lists.{once}
+use Rattle.floats.specs.Lists.{once, count}
+use Rattle.sets.specs.Sets.{isTest, isTraining, isRetired}
 use Rattle.listing.specs.declared.Tally.{Tally}
 use Rattle.listing.specs.declared.Counts.{Counts}
 use Rattle.listing.specs.Turns.{upTo, each, folded}
-use Rattle.listing.specs.Pairs.{isTest, isTraining, tallied, noneYet, leak, onlyTouch}
+use Rattle.listing.specs.Pairs.{tallied, noneYet, leak, onlyTouch}
 use Rattle.listing.specs.Leaks.{Leak, tallyFor, leaks, touching, tested}
 use Rattle.listing.specs.Words.{listText, refusedLine}
 use Rattle.listing.specs.Listing.{listOf}
@@ -138,7 +139,7 @@ module _ (file : List ℕ) where
   -- of the recordings i, a test recording, and j, if that is a training recording
   unfoldable pub itemOf : ℕ → ℕ → Found
   unfolding foundFor
-  itemOf i j = cond (isTraining (entryAt file j)) (foundFor (i, j)) nothing
+  itemOf i j = cond (isTraining (entryAt file j .set)) (foundFor (i, j)) nothing
 
   -- of i and the first n recordings
   unfoldable pub rowTo : ℕ → ℕ → Found
@@ -149,13 +150,17 @@ module _ (file : List ℕ) where
   -- of recording i, if it is a test recording, and all
   unfoldable pub testOf : ℕ → Found
   unfolding rowTo
-  testOf i = cond (isTest (entryAt file i)) (rowTo i (countOf file)) nothing
+  testOf i = cond (isTest (entryAt file i .set)) (rowTo i (countOf file)) nothing
 
   -- of the first n recordings and all
   unfoldable pub listTo : ℕ → Found
   unfolding testOf
   listTo zero = nothing
   listTo (suc n) = together (listTo n) (testOf n)
+
+  -- how many of the first n recordings were formerly held back
+  unfoldable pub formerlyTo : ℕ → ℕ
+  formerlyTo n = count (λ k. isRetired (entryAt file k .set)) (upTo n)
 
   -- of the whole file, by the rules
   abbrev pub foundByRules : Found

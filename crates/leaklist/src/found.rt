@@ -1,10 +1,11 @@
-// What is found of a file's recordings, in table order: each leak as three numbers, two ids and N; how many pairs of recordings only touch; and how many triangle pairs were given to the triangle rules.
+// What is found of a file's recordings, in table order: each leak as three numbers, two ids and N; how many pairs of recordings only touch; how many triangle pairs were given to the triangle rules; and how many recordings were formerly held back.
 ghost use mathlib.Core.Path.{_≡_};
 ghost use mathlib.Core.List.{_++_};
 ghost use Prim.Native.Nat.{_+_, _*_, _≤_, _<_};
 ghost use lib.ListN.{length};
 ghost use Rattle.layout.specs.Parts.{countOf, entryAt, tablePlace};
 ghost use Rattle.boxed.specs.Tables.{boxIn};
+ghost use Rattle.listing.specs.Leaks.{formerlyHeldBack};
 ghost use Rattle.writing.specs.Triples.{leaksIn};
 ghost use Rattle.leaklist.specs.Code.{Gathering, foundIn, together, leakOn, itemOf, rowTo, testOf, listTo};
 use crate::tallies::tally;
@@ -42,27 +43,27 @@ fn add_near(
     ensures { λ r. ⌜ (foundIn (now (found .exit)) r ≡ together (foundIn (now (found .entry)) c) (itemOf (now (file .entry)) i j)) × (r .leaks ≤ c .leaks + 1) × (r .touching ≤ c .touching + 1) ⌝ }
 {
     let f = reading::entry_at(file, at + 12 * j);
-    if f.set != 0 {
-        return c;
+    if sets::is_training(f.set) {
+        let t = tally(
+            table,
+            bounds,
+            whole,
+            (e.first / 24) as usize,
+            e.count as usize,
+            (f.first / 24) as usize,
+            f.count as usize,
+        );
+        let more = counting::one_if(counting::only_touch(t));
+        let touching = c.touching + more;
+        let tested = c.tested + t.tested;
+        let leaks = add(found, c.leaks, e.id, f.id, t);
+        return listing::Counts {
+            leaks,
+            touching,
+            tested,
+        };
     }
-    let t = tally(
-        table,
-        bounds,
-        whole,
-        (e.first / 24) as usize,
-        e.count as usize,
-        (f.first / 24) as usize,
-        f.count as usize,
-    );
-    let more = counting::one_if(counting::only_touch(t));
-    let touching = c.touching + more;
-    let tested = c.tested + t.tested;
-    let leaks = add(found, c.leaks, e.id, f.id, t);
-    listing::Counts {
-        leaks,
-        touching,
-        tested,
-    }
+    c
 }
 
 // The same of any recording j: where their own boxes share no point, none of their triangles' do, and nothing is found.
@@ -129,10 +130,10 @@ fn add_test(
     ensures { λ r. ⌜ (foundIn (now (found .exit)) r ≡ together (foundIn (now (found .entry)) c) (testOf (now (file .entry)) i)) × (r .leaks ≤ c .leaks + 64) × (r .touching ≤ c .touching + 64) ⌝ }
 {
     let e = reading::entry_at(file, at + 12 * i);
-    if e.set != 1 {
-        return c;
+    if sets::is_test(e.set) {
+        return add_row(file, table, bounds, own, found, c, i, e, at, count);
     }
-    add_row(file, table, bounds, own, found, c, i, e, at, count)
+    c
 }
 
 // Everything, in table order; how much.
@@ -159,6 +160,21 @@ pub(crate) fn gather(
         i = i + 1;
     }
     c
+}
+
+// How many of `count` recordings were formerly held back, whether they meet a test recording or not. Of each entry of the table only its set is read.
+pub(crate) fn formerly(file: &[u8], at: usize, count: usize) -> u32
+    requires { ⌜ (at ≡ tablePlace (now file)) × (at ≤ 65536) × (count ≡ countOf (now file)) × (count ≤ 64) ⌝ }
+    ensures { λ r. ⌜ r ≡ formerlyHeldBack (now (file .entry)) ⌝ }
+{
+    let mut sum: u32 = 0;
+    let mut k: usize = 0;
+    while k < count {
+        let set = reading::u8_at(file, at + 12 * k + 10);
+        sum = sum + counting::one_if(sets::is_retired(set));
+        k = k + 1;
+    }
+    sum
 }
 
 // Room for 64 times 64 leaks, more than any file has.

@@ -12,6 +12,7 @@ ghost use Rattle.layout.specs.Layout.{Layout};
 ghost use Rattle.text.specs.Room.{Put};
 ghost use Rattle.listing.specs.Promise.{ListPromise};
 ghost use Rattle.leaklist.specs.Code.{Prepared, Gathering, toldOf};
+use found::formerly;
 use found::gather;
 use found::no_leaks;
 use framed::frame;
@@ -36,7 +37,8 @@ fn from_tables(
 {
     let mut found = no_leaks();
     let c = gather(file, table, bounds, own, &mut found, at, count);
-    writing::write(room, &found, c)
+    let old = formerly(file, at, count);
+    writing::write(room, &found, c, old)
 }
 
 // From the prepared triangles on: their boxes, and those of the recordings.

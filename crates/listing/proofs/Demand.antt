@@ -1,4 +1,4 @@
--- Demand 2 of the list: a line for exactly the recordings that leak, in table order, each once, with how many of their triangle pairs overlap; the closing line counts exactly those that only touch, each once; and exactly the triangle pairs whose boxes share a point are counted as tested, each once. Assumes nothing.
+-- Demand 2 of the list: a line for exactly the recordings that leak, in table order, each once, with how many of their triangle pairs overlap; exactly those that only touch are counted, each once, and exactly the recordings that are stored with set 2; and exactly the triangle pairs whose boxes share a point are counted as tested, each once. Assumes nothing.
 use Prim.Native.Nat.{ℕ, zero, suc, _+_, _<_}
 use mathlib.Core.Path.{_≡_, refl, sym, ap, subst, _∙_}
 use mathlib.Core.Logic.{_⊎_, inl, inr, _↔_}
@@ -13,8 +13,10 @@ use Rattle.triangles.specs.declared.Decision.{Decision}
 use Rattle.triangles.specs.Decision.{overlaps, touches}
 use Rattle.layout.specs.Parts.{countOf, entryAt}
 use Rattle.listing.specs.Turns.{upTo, each, folded}
-use Rattle.listing.specs.Pairs.{isTest, isTraining, decisionAt, nearAt, trianglePairs, decisions}
-use Rattle.listing.specs.Leaks.{tests, trainings, recordingPairs, tallyFor, isLeak, leakPairs, leakOf, leaks, isTouching, touchingPairs, touching, allPairs, isTested, testedPairs, tested}
+use Rattle.sets.specs.Sets.{isTest, isTraining, isRetired, TrainingSet}
+use Rattle.sets.proofs.Sets.{all-roles}
+use Rattle.listing.specs.Pairs.{decisionAt, nearAt, trianglePairs, decisions}
+use Rattle.listing.specs.Leaks.{tests, trainings, recordingPairs, tallyFor, isLeak, leakPairs, leakOf, leaks, isTouching, touchingPairs, touching, allPairs, isTested, testedPairs, tested, formerly, formerlyHeldBack}
 use Rattle.listing.specs.Demand.{Compared, SomePair, Leaking, OnlyTouching, Tested, InTableOrder, AllDecided, lineFor, testedFor, noLeak, DemandTwo}
 use Rattle.listing.proofs.Turns.{below, reached, kept, passed, mapped, unmapped, in-each, of-each, Sorted, sorted-filter, sorted-map, sorted-each, sorted-upTo, sorted-at, sorted-once, map-at, map-same, filter-count, count-each}
 use Rattle.listing.proofs.Tallied.{count-map, tally-overlapping, tally-touching, tally-tested, counted-one, one-counted, pair-in, pair-of, decision-in, decision-of, how-many, in-turn}
@@ -42,10 +44,10 @@ sorted-product xs ys sx sy = sorted-each _<_ InTableOrder (λ i. map (λ j. (i, 
 module _ (file : List ℕ) where
   -- ---- the pairs of recordings
   abbrev testAt : ℕ → Bool
-  testAt i = isTest (entryAt file i)
+  testAt i = isTest (entryAt file i .set)
 
   abbrev trainingAt : ℕ → Bool
-  trainingAt j = isTraining (entryAt file j)
+  trainingAt j = isTraining (entryAt file j .set)
 
   abbrev with : ℕ → List (ℕ × ℕ)
   with i = map (λ j. (i, j)) (trainings file)
@@ -78,21 +80,21 @@ module _ (file : List ℕ) where
     once = sorted-once InTableOrder those (0, 0) not-before sorted-those
 
   -- ---- which pairs there are
-  in-tests : {i : ℕ} → List·Memᴰ i (tests file) → (i < countOf file) × (entryAt file i .set ≡ 1)
+  pub in-tests : {i : ℕ} → List·Memᴰ i (tests file) → (i < countOf file) × (entryAt file i .set ≡ 1)
   unfolding tests
-  in-tests {i} m = let r = passed testAt (upTo (countOf file)) m in (below (countOf file) (r .0), eqb-true (entryAt file i .set) 1 (r .1))
+  in-tests {i} m = let r = passed testAt (upTo (countOf file)) m in (below (countOf file) (r .0), all-roles (entryAt file i .set) .test .0 (r .1))
 
-  in-trainings : {j : ℕ} → List·Memᴰ j (trainings file) → (j < countOf file) × (entryAt file j .set ≡ 0)
+  pub in-trainings : {j : ℕ} → List·Memᴰ j (trainings file) → (j < countOf file) × TrainingSet (entryAt file j .set)
   unfolding trainings
-  in-trainings {j} m = let r = passed trainingAt (upTo (countOf file)) m in (below (countOf file) (r .0), eqb-true (entryAt file j .set) 0 (r .1))
+  in-trainings {j} m = let r = passed trainingAt (upTo (countOf file)) m in (below (countOf file) (r .0), all-roles (entryAt file j .set) .training .0 (r .1))
 
-  a-test : (i : ℕ) → i < countOf file → entryAt file i .set ≡ 1 → List·Memᴰ i (tests file)
+  pub a-test : (i : ℕ) → i < countOf file → entryAt file i .set ≡ 1 → List·Memᴰ i (tests file)
   unfolding tests
-  a-test i h e = kept testAt (upTo (countOf file)) (reached (countOf file) i h) (eq-eqb (entryAt file i .set) 1 e)
+  a-test i h e = kept testAt (upTo (countOf file)) (reached (countOf file) i h) (all-roles (entryAt file i .set) .test .1 e)
 
-  a-training : (j : ℕ) → j < countOf file → entryAt file j .set ≡ 0 → List·Memᴰ j (trainings file)
+  pub a-training : (j : ℕ) → j < countOf file → TrainingSet (entryAt file j .set) → List·Memᴰ j (trainings file)
   unfolding trainings
-  a-training j h e = kept trainingAt (upTo (countOf file)) (reached (countOf file) j h) (eq-eqb (entryAt file j .set) 0 e)
+  a-training j h e = kept trainingAt (upTo (countOf file)) (reached (countOf file) j h) (all-roles (entryAt file j .set) .training .1 e)
 
   pub in-pairs : {p : ℕ × ℕ} → List·Memᴰ p (recordingPairs file) → Compared file (p .0) (p .1)
   unfolding recordingPairs
@@ -184,19 +186,20 @@ module _ (file : List ℕ) where
   unfolding leakOf
   named i j = (refl, refl, refl)
 
-  -- recordings that are compared are not held back
-  not-held-back : (i j k : ℕ) → Compared file i j → entryAt file k .set ≡ 2 → (i ≡ k → ⊥) × (j ≡ k → ⊥)
-  not-held-back i j k h e =
-      let t = h .test in
-      let r = h .training in
-      (λ q. let z = ap (λ n. entryAt file n .set) q in omega (arith, e, t, z), λ q. let z = ap (λ n. entryAt file n .set) q in omega (arith, e, r, z))
+  -- ---- the recordings that were formerly held back
+  abbrev retiredAt : ℕ → Bool
+  retiredAt k = isRetired (entryAt file k .set)
 
-  no-held-back : (i j k : ℕ) → List·Memᴰ (i, j) (leakPairs file) ⊎ List·Memᴰ (i, j) (touchingPairs file) → entryAt file k .set ≡ 2 → (i ≡ k → ⊥) × (j ≡ k → ⊥)
-  no-held-back i j k m = not-held-back i j k (either m)
-    where
-      either : List·Memᴰ (i, j) (leakPairs file) ⊎ List·Memᴰ (i, j) (touchingPairs file) → Compared file i j
-      either (inl m) = leaking i j m .compared
-      either (inr m) = only-touching i j m .compared
+  formerly-exactly : (k : ℕ) → List·Memᴰ k (formerly file) ↔ ((k < countOf file) × (entryAt file k .set ≡ 2))
+  unfolding formerly
+  formerly-exactly k = (
+    λ m. let r = passed retiredAt (upTo (countOf file)) m in (below (countOf file) (r .0), all-roles (entryAt file k .set) .retired .0 (r .1)),
+    λ h. kept retiredAt (upTo (countOf file)) (reached (countOf file) k (h .0)) (all-roles (entryAt file k .set) .retired .1 (h .1)),
+  )
+
+  formerly-once : (k l : ℕ) → k < length (formerly file) → l < length (formerly file) → getD (formerly file) k 0 ≡ getD (formerly file) l 0 → k ≡ l
+  unfolding formerly
+  formerly-once = sorted-once _<_ (formerly file) 0 (λ x y h e. omega (arith, h, e)) (sorted-filter _<_ retiredAt (upTo (countOf file)) (sorted-upTo (countOf file)))
 
   all-decided : (i j : ℕ) → AllDecided file i j
   all-decided i j = record { howMany = how-many file (entryAt file i) (entryAt file j); inTurn = in-turn file (entryAt file i) (entryAt file j) }
@@ -229,9 +232,6 @@ module _ (file : List ℕ) where
           kept (isTested file) (allPairs file)
           (in-each in-two (recordingPairs file) (a-pair i j (h .compared)) (mapped (λ q. ((i, j), q)) (of-two (i, j)) (pair-in (entryAt file i) (entryAt file j) a b (h .inTest) (h .inTraining))))
           (h .near)
-
-  none-tested : (i j a b k : ℕ) → List·Memᴰ ((i, j), (a, b)) (testedPairs file) → entryAt file k .set ≡ 2 → (i ≡ k → ⊥) × (j ≡ k → ⊥)
-  none-tested i j a b k m = not-held-back i j k (tested-exactly i j a b .0 m .compared)
 
   -- by their recordings, and then by their triangles
   abbrev InTurn : (ℕ × ℕ) × (ℕ × ℕ) → (ℕ × ℕ) × (ℕ × ℕ) → Type 0
@@ -284,6 +284,7 @@ demand2 file = record {
   testedOnce = tested-once file;
   testedCounted = unfold tested in refl;
   testedWalked = tested-walked file;
-  noHeldBack = no-held-back file;
-  noneTested = none-tested file;
+  formerlyExactlyIf = formerly-exactly file;
+  formerlyOnce = formerly-once file;
+  formerlyCounted = unfold formerlyHeldBack in refl;
 }

@@ -1,4 +1,4 @@
--- The list of a good file has at most 1,024 leak lines of at most 50 bytes, a first line and a closing line, so 65,536 bytes are always enough. Assumes nothing.
+-- The list of a good file has at most 1,024 leak lines of at most 50 bytes, a first line and two closing lines, so 65,536 bytes are always enough. Assumes nothing.
 use Prim.Native.Nat.{ℕ, suc, _+_, _-_, _*_, _<_, _≤_}
 use mathlib.Core.Path.{_≡_, refl, sym, ap, subst}
 use mathlib.Core.Bool.{Bool, true, false, cond, false≢true}
@@ -6,7 +6,6 @@ use mathlib.Core.List.{List, [], _∷_, _++_, map, List·Memᴰ, List·Memᴰ·h
 use native.Mathlib.Omega.{arith}
 use native.Mathlib.Nat.{zero-mul, suc-mul, mul-le-mul, mul-le-mul-right}
 use lib.Dec.{T, leb, leb→le}
-use borrow.Author.Tests.{eqb-true}
 use lib.ListN.{length, length-append, length-map}
 use Rattle.floats.specs.Lists.{all, filter, count}
 use Rattle.floats.proofs.Lists.{all-at}
@@ -17,9 +16,11 @@ use Rattle.layout.specs.Bytes.{u16At, u32At, Bytes}
 use Rattle.layout.specs.Parts.{countOf, entryFrom, entryPlace, entryAt}
 use Rattle.layout.specs.Layout.{Layout}
 use Rattle.listing.specs.Turns.{upTo, each}
-use Rattle.listing.specs.Pairs.{isTest, isTraining, decisions}
-use Rattle.listing.specs.Leaks.{Leak, tests, trainings, recordingPairs, tallyFor, isLeak, leakPairs, leakOf, leaks, isTouching, touchingPairs, touching}
-use Rattle.listing.specs.Words.{leaksWord, touchingWord, firstLine, leakLine, leakLines, closingLine, textOf, listText}
+use Rattle.sets.specs.Sets.{isTest, isTraining, isRetired}
+use Rattle.sets.proofs.Sets.{all-roles}
+use Rattle.listing.specs.Pairs.{decisions}
+use Rattle.listing.specs.Leaks.{Leak, tests, trainings, recordingPairs, tallyFor, isLeak, leakPairs, leakOf, leaks, isTouching, touchingPairs, touching, formerly, formerlyHeldBack}
+use Rattle.listing.specs.Words.{leaksWord, touchingWord, formerlyWord, firstLine, leakLine, leakLines, touchingLine, formerlyLine, allButLast, textOf, listText}
 use Rattle.listing.specs.Enough.{AlwaysEnough}
 use Rattle.listing.proofs.Turns.{reached, unmapped}
 use Rattle.listing.proofs.Tallied.{how-many, length-upTo}
@@ -87,10 +88,10 @@ module _ (file : List ℕ) where
   -- no recording is both, so test and training recordings are together no more than all
   sets-most : length (tests file) + length (trainings file) ≤ countOf file
   unfolding tests trainings
-  sets-most = subst (λ n. length (tests file) + length (trainings file) ≤ n) (length-upTo (countOf file)) (filter-two (λ i. isTest (entryAt file i)) (λ i. isTraining (entryAt file i)) not-both (upTo (countOf file)))
+  sets-most = subst (λ n. length (tests file) + length (trainings file) ≤ n) (length-upTo (countOf file)) (filter-two (λ i. isTest (entryAt file i .set)) (λ i. isTraining (entryAt file i .set)) not-both (upTo (countOf file)))
     where
-      not-both : (i : ℕ) → isTest (entryAt file i) ≡ true → isTraining (entryAt file i) ≡ true → ⊥
-      not-both i e f = let a = eqb-true (entryAt file i .set) 1 e in let b = eqb-true (entryAt file i .set) 0 f in omega (arith, a, b)
+      not-both : (i : ℕ) → isTest (entryAt file i .set) ≡ true → isTraining (entryAt file i .set) ≡ true → ⊥
+      not-both i = all-roles (entryAt file i .set) .notBoth
 
   -- each test recording with each training recording
   pairs-most : length (recordingPairs file) ≤ length (tests file) * length (trainings file)
@@ -113,6 +114,11 @@ module _ (file : List ℕ) where
   pub touching-most : Layout file → touching file ≤ 1024
   unfolding touching touchingPairs
   touching-most good = let f = filter-most (isTouching file) (recordingPairs file) in omega (arith, f, compared-most good)
+
+  -- and no more recordings that were formerly held back than there are
+  pub formerly-most : formerlyHeldBack file ≤ countOf file
+  unfolding formerlyHeldBack formerly
+  formerly-most = let f = filter-most (λ k. isRetired (entryAt file k .set)) (upTo (countOf file)) in let n = length-upTo (countOf file) in omega (arith, f, n)
 
 -- ---- how long a line is: twenty bytes and three numbers
 three-numbers : (t r n : ℕ) → t < 4294967296 → r < 4294967296 → n < 4294967296 → length (leakLine (record { test = t; train = r; pairs = n })) ≤ 50
@@ -162,18 +168,22 @@ module _ (file : List ℕ) (bytes : Bytes file) where
       (subst (λ n. n < 4294967296) (sym (ap (λ k. k .train) e)) (id-below (p .1)))
       (subst (λ n. n < 4294967296) (sym (ap (λ k. k .pairs) e)) (pairs-below p))
 
--- ---- the whole list: at most 17 + 1,024 × 50 + 20 bytes
+-- ---- the whole list: at most 17 + 1,024 × 50 + 20 + 30 bytes
 pub always-enough : AlwaysEnough
-unfolding listText textOf leakLines
+unfolding listText textOf allButLast leakLines
 always-enough file bytes good =
     let k = length (leaks file) in
     let t = touching file in
+    let h = formerlyHeldBack file in
     let most = leaks-most file good in
     let lines = each-most leakLine 50 (leaks file) (line-most file bytes) in
     let first = count-length leaksWord k in
-    let last = count-length touchingWord t in
+    let touch = count-length touchingWord t in
+    let last = count-length formerlyWord h in
     let digits = ten-digits k (omega (arith, most)) in
     let more = ten-digits t (let m = touching-most file good in omega (arith, m)) in
+    let final = ten-digits h (let m = formerly-most file in let c = good .atMost64 in omega (arith, m, c)) in
     let front = length-append (firstLine k) (leakLines (leaks file)) in
-    let whole = length-append (firstLine k ++ leakLines (leaks file)) (closingLine t) in
-    omega (arith, most, lines, first, last, digits, more, front, whole)
+    let body = length-append (firstLine k ++ leakLines (leaks file)) (touchingLine t) in
+    let whole = length-append (firstLine k ++ leakLines (leaks file) ++ touchingLine t) (formerlyLine h) in
+    omega (arith, most, lines, first, touch, last, digits, more, final, front, body, whole)

@@ -1,7 +1,7 @@
--- Of a good file ids stand for recordings: what holds of the recordings of a line holds of the ids in it. Assumes nothing.
+-- Of a good file ids stand for recordings: what holds of the recordings of a line holds of the ids in it; and all recordings take part. Assumes nothing.
 use Prim.Native.Nat.{ℕ, _<_}
 use mathlib.Core.Path.{_≡_, refl, sym, ap, ap₂, subst, _∙_}
-use mathlib.Core.Logic.{inl, _↔_}
+use mathlib.Core.Logic.{_⊎_, inl, inr, _↔_}
 use mathlib.Core.Bool.{Bool, true, false}
 use mathlib.Core.List.{List, List·Memᴰ}
 use native.Mathlib.Omega.{arith}
@@ -10,10 +10,12 @@ use borrow.Author.Tests.{ltb-true, ltb-false}
 use lib.ListN.{length, getD}
 use Rattle.layout.specs.Parts.{countOf, entryAt}
 use Rattle.layout.specs.Layout.{Layout}
-use Rattle.listing.specs.Leaks.{Leak, recordingPairs, tallyFor, isLeak, leakPairs, leakOf, leaks}
-use Rattle.listing.specs.Demand.{Leaking, lineFor, noLeak, LinesById}
+use Rattle.sets.specs.Sets.{isTest, isTraining}
+use Rattle.sets.proofs.Sets.{all-roles}
+use Rattle.listing.specs.Leaks.{Leak, tests, trainings, recordingPairs, tallyFor, isLeak, leakPairs, leakOf, leaks}
+use Rattle.listing.specs.Demand.{Leaking, lineFor, noLeak, LinesById, AllTakePart}
 use Rattle.listing.proofs.Turns.{passed, unmapped, member-at, mapped}
-use Rattle.listing.proofs.Demand.{demand2}
+use Rattle.listing.proofs.Demand.{in-tests, in-trainings, a-test, a-training, demand2}
 
 module _ (file : List ℕ) (good : Layout file) where
   same-id : (i j : ℕ) → i < countOf file → j < countOf file → entryAt file i .id ≡ entryAt file j .id → i ≡ j
@@ -44,15 +46,16 @@ module _ (file : List ℕ) (good : Layout file) where
   unfolding leakOf
   pairs-of p = refl
 
-  no-held-back : (l : Leak) → List·Memᴰ l (leaks file) → (k : ℕ) → k < countOf file → entryAt file k .set ≡ 2 → (l .test ≡ entryAt file k .id → ⊥) × (l .train ≡ entryAt file k .id → ⊥)
-  no-held-back l m k h e =
-      let r = of-line m in
-      let p = r .0 in
-      let q = leaks-at p (r .1) in
-      let n = demand2 file .noHeldBack (p .0) (p .1) k (inl (r .1)) e in (
-        λ z. n .0 (same-id (p .0) k (q .compared .recording) h (sym (test-of p) ∙ (ap (λ l. l .test) (sym (r .2)) ∙ z))),
-        λ z. n .1 (same-id (p .1) k (q .compared .other) h (sym (train-of p) ∙ (ap (λ l. l .train) (sym (r .2)) ∙ z))),
-      )
+  -- a recording's set is one that a file may have
+  one-of-two : (k : ℕ) → k < countOf file → List·Memᴰ k (tests file) ⊎ List·Memᴰ k (trainings file)
+  one-of-two k h = go (all-roles (entryAt file k .set) .oneOfTwo (good .knownSet k h))
+    where
+      go : (isTest (entryAt file k .set) ≡ true) ⊎ (isTraining (entryAt file k .set) ≡ true) → List·Memᴰ k (tests file) ⊎ List·Memᴰ k (trainings file)
+      go (inl e) = inl (a-test file k h (all-roles (entryAt file k .set) .test .0 e))
+      go (inr e) = inr (a-training file k h (all-roles (entryAt file k .set) .training .0 e))
+
+  not-both : (k : ℕ) → List·Memᴰ k (tests file) → List·Memᴰ k (trainings file) → ⊥
+  not-both k m n = let r = all-roles (entryAt file k .set) in r .notBoth (r .test .1 (in-tests file m .1)) (r .training .1 (in-trainings file n .1))
 
   once : (k l : ℕ) → k < length (leaks file) → l < length (leaks file) → getD (leaks file) k noLeak .test ≡ getD (leaks file) l noLeak .test → getD (leaks file) k noLeak .train ≡ getD (leaks file) l noLeak .train → k ≡ l
   once k l h g e f =
@@ -83,5 +86,8 @@ module _ (file : List ℕ) (good : Layout file) where
         (leakOf file p, mapped (leakOf file) (leakPairs file) (demand2 file .exactlyIf (m .0) (m .1) .1 (m .2)), test-of p ∙ m .3, train-of p ∙ m .4),
   )
 
+pub all-take-part : AllTakePart
+all-take-part file good k h = record { oneOfTwo = one-of-two file good k h; notBoth = not-both file good k }
+
 pub lines-by-id : LinesById
-lines-by-id file good = record { noHeldBack = no-held-back file good; once = once file good; exactlyIf = exactly-if file good; some = some file good }
+lines-by-id file good = record { once = once file good; exactlyIf = exactly-if file good; some = some file good }

@@ -12,8 +12,8 @@ use Rattle.floats.proofs.Lists.{count-append}
 use Rattle.text.specs.Decimal.{decimal, readOn}
 use Rattle.text.proofs.Decimal.{AllDigits, is-digit, decimals}
 use Rattle.listing.specs.Turns.{each}
-use Rattle.listing.specs.Leaks.{Leak, leaks, touching}
-use Rattle.listing.specs.Words.{leaksWord, testWord, trainWord, pairsWord, touchingWord, refusedWord, atWord, feed, countLine, firstLine, leakLine, leakLines, closingLine, textOf, listText, refusedLine}
+use Rattle.listing.specs.Leaks.{Leak, leaks, touching, formerlyHeldBack}
+use Rattle.listing.specs.Words.{leaksWord, testWord, trainWord, pairsWord, touchingWord, formerlyWord, refusedWord, atWord, feed, countLine, firstLine, leakLine, leakLines, touchingLine, formerlyLine, allButLast, textOf, listText, refusedLine}
 use Rattle.listing.specs.Read.{numbersBy, numbersIn, feeds, threeOf, ListsReadBack, RefusalsReadBack}
 
 none-before : (m : ℕ) → 0 + m ≡ m
@@ -88,36 +88,49 @@ pub count-length : (word : List ℕ) (k : ℕ) → length (countLine word k) ≡
 unfolding countLine
 count-length word k = simp length-append (omega arith)
 
-closing-numbers : (k : ℕ) → numbersIn (closingLine k) ≡ k ∷ []
-unfolding numbersBy
-closing-numbers k = ap numbersIn (count-last touchingWord k) ∙ number k feed
+-- ---- the two closing lines
+abbrev closing : ℕ → ℕ → List ℕ
+closing t k = touchingLine t ++ formerlyLine k
 
-closing-feeds : (k : ℕ) → feeds (closingLine k) ≡ 1
+formerly-numbers : (k : ℕ) → numbersIn (formerlyLine k) ≡ k ∷ []
+unfolding numbersBy
+formerly-numbers k = ap numbersIn (count-last formerlyWord k) ∙ number k feed
+
+closing-numbers : (t k : ℕ) → numbersIn (closing t k) ≡ t ∷ k ∷ []
+unfolding numbersBy
+closing-numbers t k = ap numbersIn (count-apart touchingWord t (formerlyLine k)) ∙ (number t (feed ++ formerlyLine k) ∙ ap (λ r. t ∷ r) (formerly-numbers k))
+
+formerly-feeds : (k : ℕ) → feeds (formerlyLine k) ≡ 1
 unfolding count
-closing-feeds k = ap feeds (count-last touchingWord k) ∙ feeds-number k feed
+formerly-feeds k = ap feeds (count-last formerlyWord k) ∙ feeds-number k feed
+
+closing-feeds : (t k : ℕ) → feeds (closing t k) ≡ 2
+unfolding count
+closing-feeds t k = ap feeds (count-apart touchingWord t (formerlyLine k)) ∙ (feeds-number t (feed ++ formerlyLine k) ∙ ap suc (formerly-feeds k))
 
 -- ---- the list
-list-apart : (k : ℕ) (ls : List Leak) (ys : List ℕ) → firstLine k ++ leakLines ls ++ ys ≡ leaksWord ++ (decimal k ++ (feed ++ (leakLines ls ++ ys)))
-list-apart k ls ys = append-assoc (firstLine k) (leakLines ls) ys ∙ count-apart leaksWord k (leakLines ls ++ ys)
+list-apart : (ls : List Leak) (t k : ℕ) → textOf ls t k ≡ leaksWord ++ (decimal (length ls) ++ (feed ++ (leakLines ls ++ closing t k)))
+unfolding textOf allButLast
+list-apart ls t k = append-assoc (firstLine (length ls) ++ leakLines ls) (touchingLine t) (formerlyLine k) ∙ (append-assoc (firstLine (length ls)) (leakLines ls) (closing t k) ∙ count-apart leaksWord (length ls) (leakLines ls ++ closing t k))
 
-list-numbers : (ls : List Leak) (t : ℕ) → numbersIn (textOf ls t) ≡ length ls ∷ (each threeOf ls ++ (t ∷ []))
-unfolding textOf numbersBy
-list-numbers ls t =
-    ap numbersIn (list-apart (length ls) ls (closingLine t))
-    ∙ (number (length ls) (feed ++ (leakLines ls ++ closingLine t)) ∙ ap (λ r. length ls ∷ r) (lines-numbers ls (closingLine t) ∙ ap (λ r. each threeOf ls ++ r) (closing-numbers t)))
+list-numbers : (ls : List Leak) (t k : ℕ) → numbersIn (textOf ls t k) ≡ length ls ∷ (each threeOf ls ++ (t ∷ k ∷ []))
+unfolding numbersBy
+list-numbers ls t k =
+    ap numbersIn (list-apart ls t k)
+    ∙ (number (length ls) (feed ++ (leakLines ls ++ closing t k)) ∙ ap (λ r. length ls ∷ r) (lines-numbers ls (closing t k) ∙ ap (λ r. each threeOf ls ++ r) (closing-numbers t k)))
 
-list-feeds : (ls : List Leak) (t : ℕ) → feeds (textOf ls t) ≡ length ls + 2
-unfolding textOf count
-list-feeds ls t =
-    ap feeds (list-apart (length ls) ls (closingLine t))
-    ∙ (feeds-number (length ls) (feed ++ (leakLines ls ++ closingLine t)) ∙ (ap suc (lines-feeds ls (closingLine t) ∙ ap (λ n. length ls + n) (closing-feeds t)) ∙ one-more (length ls)))
+list-feeds : (ls : List Leak) (t k : ℕ) → feeds (textOf ls t k) ≡ length ls + 3
+unfolding count
+list-feeds ls t k =
+    ap feeds (list-apart ls t k)
+    ∙ (feeds-number (length ls) (feed ++ (leakLines ls ++ closing t k)) ∙ (ap suc (lines-feeds ls (closing t k) ∙ ap (λ n. length ls + n) (closing-feeds t k)) ∙ one-more (length ls)))
   where
-    one-more : (m : ℕ) → suc (m + 1) ≡ m + 2
+    one-more : (m : ℕ) → suc (m + 2) ≡ m + 3
     one-more m = omega arith
 
 pub lists-read-back : ListsReadBack
 unfolding listText
-lists-read-back file = record { numbers = list-numbers (leaks file) (touching file); lines = list-feeds (leaks file) (touching file) }
+lists-read-back file = record { numbers = list-numbers (leaks file) (touching file) (formerlyHeldBack file); lines = list-feeds (leaks file) (touching file) (formerlyHeldBack file) }
 
 -- ---- a refusal
 refusal-numbers : (n p : ℕ) → numbersIn (refusedWord ++ decimal n ++ atWord ++ decimal p ++ feed) ≡ n ∷ p ∷ []

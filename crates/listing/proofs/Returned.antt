@@ -62,7 +62,7 @@ module _ (file room : List ℕ) where
         answered = (λ z. absurd (h z), λ z. absurd (h (is-good file (z .0))));
         noPlace = λ z. absurd (no-kind (verdict file .number) (n .0) z);
         numbers = λ z. inr n;
-        zeros = λ z. (refl, refl, refl, refl, refl);
+        zeros = λ z. (refl, refl, refl, refl, refl, refl);
         sameLength = refl;
         rest = refl;
       }
@@ -78,7 +78,7 @@ module _ (file room : List ℕ) where
     answered = (λ e. absurd (omega (arith, e)), λ p. let g = p .1 in absurd (omega (arith, g, h)));
     noPlace = λ e. refl;
     numbers = λ e. inl refl;
-    zeros = λ e. (refl, refl, refl, refl, refl);
+    zeros = λ e. (refl, refl, refl, refl, refl, refl);
     sameLength = refl;
     rest = refl;
   }
@@ -118,6 +118,7 @@ module _ (file room : List ℕ) where
         leaks-is = refl;
         touching-is = unfold beside in refl;
         tested-is = unfold beside in refl;
+        formerly-is = unfold beside in refl;
         text = stands h .whole (omega (arith, h)) .0;
         demand = demand2 file;
       })

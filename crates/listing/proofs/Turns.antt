@@ -113,9 +113,18 @@ pub each-one : {A B : Type 0} (f : A → List B) (x : A) → each f (x ∷ []) �
 unfolding each
 each-one f x = append-nil (f x)
 
+-- what gives the same of each that is there gives the same of all
+pub map-same-in : {A B : Type 0} (f g : A → B) (xs : List A) → ((x : A) → List·Memᴰ x xs → f x ≡ g x) → map f xs ≡ map g xs
+map-same-in f g [] same = refl
+map-same-in f g (x ∷ xs) same = ap₂ _∷_ (same x (here refl)) (map-same-in f g xs (λ y m. same y (there m)))
+
 pub map-same : {A B : Type 0} (f g : A → B) → ((x : A) → f x ≡ g x) → (xs : List A) → map f xs ≡ map g xs
-map-same f g same [] = refl
-map-same f g same (x ∷ xs) = ap₂ _∷_ (same x) (map-same f g same xs)
+map-same f g same xs = map-same-in f g xs (λ x m. same x)
+
+pub filter-same-in : {A : Type 0} (p q : A → Bool) (xs : List A) → ((x : A) → List·Memᴰ x xs → p x ≡ q x) → filter p xs ≡ filter q xs
+unfolding filter
+filter-same-in p q [] same = refl
+filter-same-in p q (x ∷ xs) same = ap₂ (λ b r. cond b (x ∷ r) r) (same x (here refl)) (filter-same-in p q xs (λ y m. same y (there m)))
 
 -- ---- how many
 pub filter-count : {A : Type 0} (p : A → Bool) (xs : List A) → length (filter p xs) ≡ count p xs

@@ -1,4 +1,4 @@
--- Demand 2 of the leak list, in the words of 02, No. 1 and No. 3: which lines there are, in which order, what stands in them, what the closing line counts, and how many triangle pairs are given to the triangle rules, in facts about the file's recordings and triangles. Statements only.
+-- Demand 2 of the leak list, in the words of 02, No. 1, No. 3 and No. 7: which lines there are, in which order, what stands in them, what the two closing lines count, and how many triangle pairs are given to the triangle rules, in facts about the file's recordings and triangles. Statements only.
 use Prim.Native.Nat.{ℕ, _+_, _*_, _<_}
 use mathlib.Core.Path.{_≡_}
 use mathlib.Core.Logic.{_⊎_, _↔_}
@@ -19,7 +19,8 @@ use Rattle.layout.specs.Layout.{Layout}
 use Rattle.listing.specs.Turns.{folded}
 use Rattle.listing.specs.declared.Tally.{Tally}
 use Rattle.listing.specs.Pairs.{valuesAt, decisionAt, decisions, tallied}
-use Rattle.listing.specs.Leaks.{Leak, recordingPairs, tallyFor, leakPairs, leakOf, leaks, touchingPairs, touching, testedPairs, tested}
+use Rattle.sets.specs.Sets.{TrainingSet}
+use Rattle.listing.specs.Leaks.{Leak, tests, trainings, recordingPairs, tallyFor, leakPairs, leakOf, leaks, touchingPairs, touching, testedPairs, tested, formerly, formerlyHeldBack}
 
 -- the triangles a of recording i, as U, and b of recording j, as V, overlap; or touch
 abbrev pub Overlap : List ℕ → ℕ → ℕ → ℕ → ℕ → Type 0
@@ -28,12 +29,12 @@ Overlap file i j a b = overlaps (decisionAt file (entryAt file i) (entryAt file 
 abbrev pub Touch : List ℕ → ℕ → ℕ → ℕ → ℕ → Type 0
 Touch file i j a b = touches (decisionAt file (entryAt file i) (entryAt file j) a b) ≡ true
 
--- i is a test recording of the table and j a training recording
+-- i is a test recording of the table and j a training recording, which is stored with set 0 or, where it was held back once, with set 2
 pub record Compared (file : List ℕ) (i j : ℕ) : Type 0 where
   pub recording : i < countOf file
   pub test : entryAt file i .set ≡ 1
   pub other : j < countOf file
-  pub training : entryAt file j .set ≡ 0
+  pub training : TrainingSet (entryAt file j .set)
 
 -- a triangle of recording i and one of recording j of which something holds
 abbrev pub SomePair : List ℕ → ℕ → ℕ → (ℕ → ℕ → Type 0) → Type 0
@@ -93,7 +94,7 @@ pub record ListDemand2 (file : List ℕ) : Type 0 where
   pub named : (i j : ℕ) → (leakOf file (i, j) .test ≡ entryAt file i .id) × (leakOf file (i, j) .train ≡ entryAt file j .id) × (leakOf file (i, j) .pairs ≡ tallyFor file (i, j) .overlapping)
   pub counted : (i j : ℕ) → tallyFor file (i, j) .overlapping ≡ count overlaps (decisions file (entryAt file i) (entryAt file j))
   pub decided : (i j : ℕ) → AllDecided file i j
-  -- the closing line's number is how many pairs there are of a test and a training recording that only touch: the pairs counted are those and no other, and each is counted once
+  -- the number behind `touching` is how many pairs there are of a test and a training recording that only touch: the pairs counted are those and no other, and each is counted once
   pub touchingExactlyIf : (i j : ℕ) → List·Memᴰ (i, j) (touchingPairs file) ↔ OnlyTouching file i j
   pub touchingInOrder : (k l : ℕ) → k < l → l < length (touchingPairs file) → InTableOrder (touchingFor file k) (touchingFor file l)
   pub touchingOnce : (k l : ℕ) → k < length (touchingPairs file) → l < length (touchingPairs file) → touchingFor file k ≡ touchingFor file l → k ≡ l
@@ -104,17 +105,24 @@ pub record ListDemand2 (file : List ℕ) : Type 0 where
   pub testedCounted : tested file ≡ length (testedPairs file)
   -- and it is what is counted over the walk, pair of recordings by pair of recordings
   pub testedWalked : tested file ≡ folded _+_ 0 (map (λ p. tallyFor file p .tested) (recordingPairs file))
-  -- a held back recording has no part in any line, nor in what the closing line counts, nor in any pair that is tested
-  pub noHeldBack : (i j k : ℕ) → List·Memᴰ (i, j) (leakPairs file) ⊎ List·Memᴰ (i, j) (touchingPairs file) → entryAt file k .set ≡ 2 → (i ≡ k → ⊥) × (j ≡ k → ⊥)
-  pub noneTested : (i j a b k : ℕ) → List·Memᴰ ((i, j), (a, b)) (testedPairs file) → entryAt file k .set ≡ 2 → (i ≡ k → ⊥) × (j ≡ k → ⊥)
+  -- the last number is how many recordings are stored with set 2, whether they meet a test recording or not: those are counted and no other, and each is counted once
+  pub formerlyExactlyIf : (k : ℕ) → List·Memᴰ k (formerly file) ↔ ((k < countOf file) × (entryAt file k .set ≡ 2))
+  pub formerlyOnce : (k l : ℕ) → k < length (formerly file) → l < length (formerly file) → getD (formerly file) k 0 ≡ getD (formerly file) l 0 → k ≡ l
+  pub formerlyCounted : formerlyHeldBack file ≡ length (formerly file)
 
 abbrev pub DemandTwo : Type 0
 DemandTwo = (file : List ℕ) → ListDemand2 file
 
+-- every recording of a good file is a test or a training recording, and none is both: all take part
+pub record TakesPart (file : List ℕ) (k : ℕ) : Type 0 where
+  pub oneOfTwo : List·Memᴰ k (tests file) ⊎ List·Memᴰ k (trainings file)
+  pub notBoth : List·Memᴰ k (tests file) → List·Memᴰ k (trainings file) → ⊥
+
+abbrev pub AllTakePart : Type 0
+AllTakePart = (file : List ℕ) → Layout file → (k : ℕ) → k < countOf file → TakesPart file k
+
 -- of a good file ids stand for recordings, so the same can be said of what is read in the list
 pub record ByIds (file : List ℕ) : Type 0 where
-  -- the id of a held back recording is in no line
-  pub noHeldBack : (l : Leak) → List·Memᴰ l (leaks file) → (k : ℕ) → k < countOf file → entryAt file k .set ≡ 2 → (l .test ≡ entryAt file k .id → ⊥) × (l .train ≡ entryAt file k .id → ⊥)
   -- no two lines name the same two ids
   pub once : (k l : ℕ) → k < length (leaks file) → l < length (leaks file) → getD (leaks file) k noLeak .test ≡ getD (leaks file) l noLeak .test → getD (leaks file) k noLeak .train ≡ getD (leaks file) l noLeak .train → k ≡ l
   -- a line names two ids if and only if they are those of two recordings that leak

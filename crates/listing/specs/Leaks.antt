@@ -1,4 +1,4 @@
--- 01, "The leak list", with 02, No. 1 and No. 3: which pairs of recordings have a line, in which order, and what the line names; which only touch; and which triangle pairs are given to the triangle rules. Definitions only.
+-- 01, "The leak list", with 02, No. 1, No. 3 and No. 7: which pairs of recordings have a line, in which order, and what the line names; which only touch; which triangle pairs are given to the triangle rules; and which recordings were formerly held back. Definitions only.
 use Prim.Native.Nat.{ℕ}
 use mathlib.Core.Bool.{Bool}
 use mathlib.Core.List.{List, map}
@@ -7,7 +7,8 @@ use Rattle.floats.specs.Lists.{filter}
 use Rattle.layout.specs.Parts.{countOf, entryAt}
 use Rattle.listing.specs.Turns.{upTo, each}
 use Rattle.listing.specs.declared.Tally.{Tally}
-use Rattle.listing.specs.Pairs.{isTest, isTraining, nearAt, trianglePairs, tallyOf, leak, onlyTouch}
+use Rattle.sets.specs.Sets.{isTest, isTraining, isRetired}
+use Rattle.listing.specs.Pairs.{nearAt, trianglePairs, tallyOf, leak, onlyTouch}
 
 -- a leak line: the ids of the test and the training recording, and how many of their triangle pairs overlap
 pub record Leak : Type 0 where
@@ -16,14 +17,14 @@ pub record Leak : Type 0 where
   pub pairs : ℕ
 
 module _ (file : List ℕ) where
-  -- the test recordings and the training recordings, by their numbers, in table order
+  -- the test recordings and the training recordings, by their numbers, in table order. What was held back once stands among the training recordings
   unfoldable pub tests : List ℕ
   unfolding filter upTo countOf entryAt
-  tests = filter (λ i. isTest (entryAt file i)) (upTo (countOf file))
+  tests = filter (λ i. isTest (entryAt file i .set)) (upTo (countOf file))
 
   unfoldable pub trainings : List ℕ
   unfolding filter upTo countOf entryAt
-  trainings = filter (λ j. isTraining (entryAt file j)) (upTo (countOf file))
+  trainings = filter (λ j. isTraining (entryAt file j .set)) (upTo (countOf file))
 
   -- for each test recording each training recording
   unfoldable pub recordingPairs : List (ℕ × ℕ)
@@ -81,11 +82,21 @@ module _ (file : List ℕ) where
   unfolding testedPairs
   tested = length testedPairs
 
+  -- the recordings that are stored with the set that is retired, by their numbers, whether they meet a test recording or not
+  unfoldable pub formerly : List ℕ
+  unfolding filter upTo countOf entryAt
+  formerly = filter (λ k. isRetired (entryAt file k .set)) (upTo (countOf file))
+
+  unfoldable pub formerlyHeldBack : ℕ
+  unfolding formerly
+  formerlyHeldBack = length formerly
+
 -- what is counted beside the leaks
 pub record Beside : Type 0 where
   pub touching : ℕ
   pub tested : ℕ
+  pub formerlyHeldBack : ℕ
 
 unfoldable pub beside : List ℕ → Beside
-unfolding touching tested
-beside file = record { touching = touching file; tested = tested file }
+unfolding touching tested formerlyHeldBack
+beside file = record { touching = touching file; tested = tested file; formerlyHeldBack = formerlyHeldBack file }

@@ -1,4 +1,4 @@
--- 01, "The leak list", with 02, No. 1 and No. 3: the list in lent room, refusal 7, and what the program writes. Definitions only.
+-- 01, "The leak list", with 02, No. 1, No. 3 and No. 7: the list in lent room, refusal 7, and what the program writes. Definitions only.
 use Prim.Native.Nat.{ℕ}
 use mathlib.Core.Bool.{cond}
 use mathlib.Core.List.{List}
@@ -19,7 +19,7 @@ pub record ListAndRoom : Type 0 where
 
 -- a refusal: its number and place, all else zero, and the room as it was
 abbrev pub noList : List ℕ → Verdict → ListAndRoom
-noList room v = record { result = record { number = v .number; place = v .place; length = 0; leaks = 0; touching = 0; tested = 0 }; room = room }
+noList room v = record { result = record { number = v .number; place = v .place; length = 0; leaks = 0; touching = 0; tested = 0; «formerly_held_back» = 0 }; room = room }
 
 -- the room is shorter than the whole list
 abbrev pub tooShort : Verdict
@@ -27,12 +27,12 @@ tooShort = numberAt 7 0
 
 -- a list: its length, how many leaks it has and what is counted beside them are told, and it stands at the front of the room, the rest of which stays
 abbrev pub listIn : List ℕ → List ℕ → ℕ → Beside → ListAndRoom
-listIn room text k b = record { result = record { number = 0; place = 0; length = length text; leaks = k; touching = b .touching; tested = b .tested }; room = laid room 0 text }
+listIn room text k b = record { result = record { number = 0; place = 0; length = length text; leaks = k; touching = b .touching; tested = b .tested; «formerly_held_back» = b .formerlyHeldBack }; room = laid room 0 text }
 
 -- of these leaks and what is counted beside them: the list in the room, or refusal 7 where the room is shorter. How many pairs were tested is no part of the text
 unfoldable pub listFrom : List Leak → Beside → List ℕ → ListAndRoom
 unfolding textOf laid
-listFrom ls b room = let text = textOf ls (b .touching) in cond (ltb (length room) (length text)) (noList room tooShort) (listIn room text (length ls) b)
+listFrom ls b room = let text = textOf ls (b .touching) (b .formerlyHeldBack) in cond (ltb (length room) (length text)) (noList room tooShort) (listIn room text (length ls) b)
 
 -- the file's own refusals first, then 7, then the list
 unfoldable pub listOf : List ℕ → List ℕ → ListAndRoom

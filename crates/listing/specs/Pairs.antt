@@ -13,13 +13,6 @@ use Rattle.layout.specs.Recordings.{f64At}
 use Rattle.listing.specs.declared.Tally.{Tally}
 use Rattle.listing.specs.Turns.{upTo, each, folded}
 
--- a recording's set: 0 is training, 1 is test
-abbrev pub isTest : Entry → Bool
-isTest e = eqb (e .set) 1
-
-abbrev pub isTraining : Entry → Bool
-isTraining e = eqb (e .set) 0
-
 -- where triangle a of a recording stands
 abbrev pub placeIn : Entry → ℕ → ℕ
 placeIn e a = e .first + 24 * a

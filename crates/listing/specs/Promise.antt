@@ -7,7 +7,7 @@ use lib.ListN.{length, take, drop}
 use Rattle.layout.specs.Verdict.{verdict}
 use Rattle.layout.specs.Layout.{Layout}
 use Rattle.listing.specs.declared.Listed.{Listed}
-use Rattle.listing.specs.Leaks.{leaks, touching, tested}
+use Rattle.listing.specs.Leaks.{leaks, touching, tested, formerlyHeldBack}
 use Rattle.listing.specs.Words.{listText, refusedLine}
 use Rattle.listing.specs.Listing.{listOf, outputOf}
 use Rattle.listing.specs.Demand.{ListDemand2}
@@ -29,7 +29,7 @@ pub record ListDemand1 (file room : List ℕ) (result : Listed) (after : List �
   pub noPlace : (result .number ≡ 0) ⊎ (result .number ≡ 7) → result .place ≡ 0
   -- the numbers are 7 and 11 to 18, and with a refusal come zeros and the room as it was
   pub numbers : (result .number ≡ 0 → ⊥) → (result .number ≡ 7) ⊎ ((11 ≤ result .number) × (result .number ≤ 18))
-  pub zeros : (result .number ≡ 0 → ⊥) → (result .length ≡ 0) × (result .leaks ≡ 0) × (result .touching ≡ 0) × (result .tested ≡ 0) × (after ≡ room)
+  pub zeros : (result .number ≡ 0 → ⊥) → (result .length ≡ 0) × (result .leaks ≡ 0) × (result .touching ≡ 0) × (result .tested ≡ 0) × (result .«formerly_held_back» ≡ 0) × (after ≡ room)
   -- refused or not: the room keeps its length, and what lies behind the list
   pub sameLength : length after ≡ length room
   pub rest : drop (result .length) after ≡ drop (result .length) room
@@ -43,6 +43,7 @@ pub record Written (file : List ℕ) (result : Listed) (after : List ℕ) : Type
   pub leaks-is : result .leaks ≡ length (leaks file)
   pub touching-is : result .touching ≡ touching file
   pub tested-is : result .tested ≡ tested file
+  pub formerly-is : result .«formerly_held_back» ≡ formerlyHeldBack file
   pub text : take (result .length) after ≡ listText file
   pub demand : ListDemand2 file
 

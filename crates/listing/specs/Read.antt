@@ -1,4 +1,4 @@
--- 01, "The leak list", with 02, No. 1, read back: whoever takes the numbers out of the text, from left to right, has the number of leaks, of each leak its two ids and N, and last the number of pairs of recordings that only touch, and nothing else; and between the first line and the closing line there is one for each leak. Definitions and statements.
+-- 01, "The leak list", with 02, No. 1 and No. 7, read back: whoever takes the numbers out of the text, from left to right, has the number of leaks, of each leak its two ids and N, then the number of pairs of recordings that only touch, and last the number of recordings that were formerly held back, and nothing else; and between the first line and the two closing lines there is one for each leak. Definitions and statements.
 use Prim.Native.Nat.{ℕ, _+_, _-_, _*_}
 use mathlib.Core.Path.{_≡_}
 use mathlib.Core.Bool.{Bool, true, false, cond}
@@ -9,7 +9,7 @@ use Rattle.floats.specs.Lists.{count}
 use Rattle.text.specs.Decimal.{isDigit}
 use Rattle.layout.specs.declared.Verdict.{Verdict}
 use Rattle.listing.specs.Turns.{each}
-use Rattle.listing.specs.Leaks.{Leak, leaks, touching}
+use Rattle.listing.specs.Leaks.{Leak, leaks, touching, formerlyHeldBack}
 use Rattle.listing.specs.Words.{listText, refusedLine}
 
 -- the numbers of a text, one for each run of digits; `n` is what was read of the run that one is in
@@ -30,8 +30,8 @@ abbrev pub threeOf : Leak → List ℕ
 threeOf l = l .test ∷ l .train ∷ l .pairs ∷ []
 
 pub record ReadBack (file : List ℕ) : Type 0 where
-  pub numbers : numbersIn (listText file) ≡ length (leaks file) ∷ (each threeOf (leaks file) ++ (touching file ∷ []))
-  pub lines : feeds (listText file) ≡ length (leaks file) + 2
+  pub numbers : numbersIn (listText file) ≡ length (leaks file) ∷ (each threeOf (leaks file) ++ (touching file ∷ formerlyHeldBack file ∷ []))
+  pub lines : feeds (listText file) ≡ length (leaks file) + 3
 
 abbrev pub ListsReadBack : Type 0
 ListsReadBack = (file : List ℕ) → ReadBack file

@@ -7,15 +7,15 @@ pub struct Tally {
     pub tested: u32,
 }
 
-// What is counted of a file: how many leaks there are, how many pairs of recordings only touch, and how many triangle pairs were given to the triangle rules.
+// What is counted of a file's test recordings, each with all training recordings: how many leaks there are, how many pairs of recordings only touch, and how many triangle pairs were given to the triangle rules.
 pub struct Counts {
     pub leaks: u32,
     pub touching: u32,
     pub tested: u32,
 }
 
-// What is said of a list: number 0 and place 0, the list's length in bytes, how many leaks it has, how many pairs of recordings only touch, and how many
-// triangle pairs were given to the triangle rules; or a refusal's number and place with zeros.
+// What is said of a list: number 0 and place 0, the list's length in bytes, how many leaks it has, how many pairs of recordings only touch, how many
+// triangle pairs were given to the triangle rules, and how many recordings were formerly held back; or a refusal's number and place with zeros.
 #[repr(C)]
 pub struct Listed {
     pub number: u32,
@@ -24,4 +24,5 @@ pub struct Listed {
     pub leaks: u32,
     pub touching: u32,
     pub tested: u32,
+    pub formerly_held_back: u32,
 }

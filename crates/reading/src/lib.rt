@@ -46,7 +46,14 @@ fn byte_at(bytes: &[u8], at: usize) -> u8
     0
 }
 
-// The four bytes at a place as a number.
+// The byte at a place as a number.
+pub fn u8_at(bytes: &[u8], at: usize) -> u32
+    ensures { λ r. ⌜ r ≡ byteAt (now (bytes .entry)) at ⌝ }
+{
+    wide(byte_at(bytes, at))
+}
+
+// The four bytes at a place likewise.
 pub fn u32_at(bytes: &[u8], at: usize) -> u32
     ensures { λ r. ⌜ r ≡ u32At (now (bytes .entry)) at ⌝ }
 {
@@ -77,8 +84,8 @@ pub fn entry_at(bytes: &[u8], at: usize) -> layout::Entry
     let id = u32_at(bytes, at);
     let first = u32_at(bytes, at + 4);
     let count = two(byte_at(bytes, at + 8), byte_at(bytes, at + 9));
-    let set = wide(byte_at(bytes, at + 10));
-    let last = wide(byte_at(bytes, at + 11));
+    let set = u8_at(bytes, at + 10);
+    let last = u8_at(bytes, at + 11);
     layout::Entry {
         id,
         first,

@@ -1,20 +1,24 @@
 -- A turn of each loop: the things that are left say what all say. Assumes nothing.
 use Prim.Native.Nat.{ℕ, suc, _+_, _-_, _*_, _<_, _≤_}
 use mathlib.Core.Path.{_≡_, refl, sym, ap, _∙_}
-use mathlib.Core.Bool.{Bool, true, false}
+use mathlib.Core.Logic.{⊎-elim}
+use mathlib.Core.Bool.{Bool, true, false, cond, or-true}
 use mathlib.Core.List.{List, []}
 use native.Mathlib.Omega.{arith}
 use lib.Dec.{eqb}
 use lib.IntN.{ℤ, pos}
 use lib.ListN.{getD, take, drop}
 use lib.Seq.{getD-take, getD-drop}
-use borrow.Author.Tests.{eq-eqb, ne-eqb, eqb-true, eqb-false}
+use borrow.Author.Tests.{eq-eqb, ne-eqb, eqb-true, eqb-false, lt-ltb}
+use native.Mathlib.Nat.{eq-or-lt-of-le}
 use Rattle.floats.specs.Lists.{any}
+use Rattle.sets.specs.Sets.{isRetired}
+use Rattle.layout.specs.declared.Entry.{Entry}
 use Rattle.layout.specs.Bytes.{signed}
 use Rattle.layout.specs.Parts.{triangleOf}
 use Rattle.layout.specs.Rules.{isBadEntry, isSeen, entryRule, triangleRule}
 use Rattle.filing.specs.Given.{givenOf, entryBy, sumOf, entryOf, triangleIn}
-use Rattle.filing.specs.Refusals.{idsBefore, firstFrom, entryNumber, triangleNumber}
+use Rattle.filing.specs.Refusals.{idsBefore, firstFrom, newEntryRule, entryNumber, triangleNumber}
 use Rattle.filing.proofs.Fit.{sum-up as sum-grows}
 
 -- ---- the first of numbers that is not 0
@@ -48,15 +52,33 @@ pub seen-none : (ids : List ℕ) (id : ℕ) → false ≡ isSeen id (idsBefore i
 unfolding isSeen any idsBefore
 seen-none ids id = refl
 
+-- ---- the number of an entry that is to be written
+-- a set over 1 is the one that is retired, or over 2 and none for the reader either
+pub over-one : (e : Entry) (end : ℕ) (seen : Bool) → 1 < e .set → 14 ≡ newEntryRule e end seen
+unfolding newEntryRule entryRule isBadEntry
+over-one e end seen h = go (isRetired (e .set)) refl
+  where
+    none : (n : ℕ) → 1 < n → (n ≡ 2 → ⊥) → 2 < n
+    none n h z = ⊎-elim (λ q. absurd (z (sym q))) (λ l. l) (eq-or-lt-of-le h)
+
+    go : (b : Bool) → isRetired (e .set) ≡ b → 14 ≡ cond b 14 (entryRule e end seen)
+    go true r = refl
+    go false r = sym (rw (lt-ltb 2 (e .set) (none (e .set) h (eqb-false (e .set) 2 r)), or-true (eqb (e .count) 0)) refl)
+
+-- of any other the reader's rule is asked
+pub up-to-one : (e : Entry) (end : ℕ) (seen : Bool) → e .set ≤ 1 → {r : ℕ} → r ≡ entryRule e end seen → r ≡ newEntryRule e end seen
+unfolding newEntryRule
+up-to-one e end seen h p = p ∙ sym (rw (ne-eqb (e .set) 2 (λ z. omega (arith, h, z))) refl)
+
 -- ---- where an entry begins does not matter to its number, if it is where the one before ended
-pub anywhere : (id first count set : ℕ) (seen : Bool) → entryRule (entryBy id first count set) first seen ≡ entryRule (entryBy id 0 count set) 0 seen
-unfolding entryRule isBadEntry
+pub anywhere : (id first count set : ℕ) (seen : Bool) → newEntryRule (entryBy id first count set) first seen ≡ newEntryRule (entryBy id 0 count set) 0 seen
+unfolding newEntryRule entryRule isBadEntry
 anywhere id first count set seen = rw (eq-eqb first first refl) refl
 
-pub entry-is : (ids counts sets : List ℕ) (i : ℕ) {x : ℕ} {seen : Bool} → seen ≡ isSeen (getD ids i 0) (idsBefore ids i) → x ≡ entryRule (entryBy (getD ids i 0) 0 (getD counts i 0) (getD sets i 0)) 0 seen → entryNumber (givenOf ids counts sets []) i ≡ x
+pub entry-is : (ids counts sets : List ℕ) (i : ℕ) {x : ℕ} {seen : Bool} → seen ≡ isSeen (getD ids i 0) (idsBefore ids i) → x ≡ newEntryRule (entryBy (getD ids i 0) 0 (getD counts i 0) (getD sets i 0)) 0 seen → entryNumber (givenOf ids counts sets []) i ≡ x
 unfolding entryNumber entryOf
 entry-is ids counts sets i {x} {seen} s e =
-    ap (λ b. entryRule (entryBy (getD ids i 0) (24 * sumOf counts i) (getD counts i 0) (getD sets i 0)) (24 * sumOf counts i) b) (sym s)
+    ap (λ b. newEntryRule (entryBy (getD ids i 0) (24 * sumOf counts i) (getD counts i 0) (getD sets i 0)) (24 * sumOf counts i) b) (sym s)
     ∙ (anywhere (getD ids i 0) (24 * sumOf counts i) (getD counts i 0) (getD sets i 0) seen ∙ sym e)
 
 -- ---- counts, of which what is left is counted down

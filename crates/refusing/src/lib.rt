@@ -1,13 +1,13 @@
-// The refusals of lists that are to be written as a footprint file, in their order. The rules of an entry and of a triangle are those that a file is read by.
+// The refusals of lists that are to be written as a footprint file, in their order. The rules of an entry and of a triangle are those that a file is read by, but that nothing is written with the set that is retired.
 ghost use mathlib.Core.Path.{_≡_};
 ghost use mathlib.Core.Bool.{not, _||_};
 ghost use mathlib.Core.List.{[]};
 ghost use Prim.Native.Nat.{_+_, _*_, _/_, _<_};
 ghost use lib.Dec.{eqb, ltb};
 ghost use lib.ListN.{length, getD};
-ghost use Rattle.layout.specs.Rules.{isSeen, entryRule};
+ghost use Rattle.layout.specs.Rules.{isSeen};
 ghost use Rattle.filing.specs.Given.{givenOf, entryBy, sumOf};
-ghost use Rattle.filing.specs.Refusals.{idsBefore, numberIf, orElse, firstFrom, entryNumber, triangleNumber, refusal as refusalOf};
+ghost use Rattle.filing.specs.Refusals.{idsBefore, numberIf, orElse, firstFrom, newEntryRule, entryNumber, triangleNumber, refusal as refusalOf};
 
 // 15 at once, of four lengths: whether the lists of recordings differ, or a triangle is broken off.
 fn is_unequal(ids: usize, counts: usize, sets: usize, numbers: usize) -> bool
@@ -40,8 +40,12 @@ fn is_seen(ids: &[u32], i: usize) -> bool
 
 // The number of an entry that begins where the one before ends, as at 0: 14, 16 or 0.
 fn entry_number(id: u32, count: u32, set: u8, seen: bool) -> u32
-    ensures { λ r. ⌜ r ≡ entryRule (entryBy id 0 count set) 0 seen ⌝ }
+    ensures { λ r. ⌜ r ≡ newEntryRule (entryBy id 0 count set) 0 seen ⌝ }
 {
+    // The set that is retired, and those that there are not.
+    if 1 < set {
+        return 14;
+    }
     let e = layout::Entry {
         id,
         first: 0,

@@ -6,7 +6,7 @@ use native.Mathlib.Omega.{arith}
 use lib.ListN.{length, length-append}
 use Rattle.text.specs.Decimal.{decimal}
 use Rattle.layout.specs.Verdict.{numberAt}
-use Rattle.listing.specs.Words.{testWord, trainWord, pairsWord, leaksWord, touchingWord, refusedWord, atWord, feed, countLine, firstLine, leakLine, closingLine, refusedLine}
+use Rattle.listing.specs.Words.{testWord, trainWord, pairsWord, leaksWord, touchingWord, formerlyWord, refusedWord, atWord, feed, countLine, firstLine, leakLine, touchingLine, formerlyLine, refusedLine}
 use Rattle.listing.proofs.Read.{count-length}
 use Rattle.wording.specs.Lines.{leakLineOf}
 
@@ -27,8 +27,11 @@ count-is word k = refl
 pub first-length : (k : ℕ) → length (firstLine k) ≡ 7 + length (decimal k)
 first-length k = let e = count-length leaksWord k in omega (arith, e)
 
-pub closing-length : (k : ℕ) → length (closingLine k) ≡ 10 + length (decimal k)
-closing-length k = let e = count-length touchingWord k in omega (arith, e)
+pub touching-length : (k : ℕ) → length (touchingLine k) ≡ 10 + length (decimal k)
+touching-length k = let e = count-length touchingWord k in omega (arith, e)
+
+pub formerly-length : (k : ℕ) → length (formerlyLine k) ≡ 20 + length (decimal k)
+formerly-length k = let e = count-length formerlyWord k in omega (arith, e)
 
 pub refused-length : (n p : ℕ) → length (refusedLine (numberAt n p)) ≡ 13 + length (decimal n) + length (decimal p)
 unfolding refusedLine

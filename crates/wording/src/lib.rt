@@ -5,7 +5,7 @@ ghost use lib.ListN.{length};
 ghost use Rattle.layout.specs.Verdict.{numberAt};
 ghost use Rattle.text.specs.Decimal.{decimal};
 ghost use Rattle.text.specs.Room.{Measured, Put};
-ghost use Rattle.listing.specs.Words.{countLine, firstLine, closingLine, refusedLine};
+ghost use Rattle.listing.specs.Words.{countLine, firstLine, touchingLine, formerlyLine, refusedLine};
 ghost use Rattle.wording.specs.Lines.{leakLineOf};
 
 // A word and a number, for which there is room, from a place on; the place behind them.
@@ -81,18 +81,32 @@ pub fn put_first(room: &mut [u8], k: u32) -> usize
     put_count(room, 0, b"leaks ", k)
 }
 
-// The length of the closing line of a list with k pairs of recordings that only touch.
-pub fn closing_length(k: u32) -> usize
-    ensures { λ r. ⌜ Measured (closingLine k) r × (r ≤ k + 11) ⌝ }
+// The length of the line that says how many pairs of recordings only touch.
+pub fn touching_length(k: u32) -> usize
+    ensures { λ r. ⌜ Measured (touchingLine k) r × (r ≤ k + 11) ⌝ }
 {
     10 + text::width(k)
 }
 
 // That line, from a place on; the place behind it. Where it does not fit, nothing is put, and the place stays.
-pub fn put_closing(room: &mut [u8], at: usize, k: u32) -> usize
-    ensures { λ r. ⌜ Put (now (room .entry)) at (closingLine k) (now (room .exit)) r ⌝ }
+pub fn put_touching(room: &mut [u8], at: usize, k: u32) -> usize
+    ensures { λ r. ⌜ Put (now (room .entry)) at (touchingLine k) (now (room .exit)) r ⌝ }
 {
     put_count(room, at, b"touching ", k)
+}
+
+// The length of the last line, which says how many recordings were formerly held back.
+pub fn formerly_length(k: u32) -> usize
+    ensures { λ r. ⌜ Measured (formerlyLine k) r × (r ≤ k + 21) ⌝ }
+{
+    20 + text::width(k)
+}
+
+// That line, likewise.
+pub fn put_formerly(room: &mut [u8], at: usize, k: u32) -> usize
+    ensures { λ r. ⌜ Put (now (room .entry)) at (formerlyLine k) (now (room .exit)) r ⌝ }
+{
+    put_count(room, at, b"formerly held back ", k)
 }
 
 // The line that says how a file is refused, at the front of the room, and its length. Where it does not fit, nothing is put, and the length is 0.

@@ -1,4 +1,4 @@
--- Lists worked by hand: 01's example with 02's closing line, rooms around its length, files in which a wrong order, a wrong count, a wrong set or U for V would show, files of recordings that share an edge, a part of one, or a corner, and files of far pairs. Definitions and statements.
+-- Lists worked by hand: 01's example with 02's closing lines, rooms around its length, files in which a wrong order, a wrong count, a wrong set or U for V would show, files of recordings that share an edge, a part of one, or a corner, files of far pairs, and old files. Definitions and statements.
 use Prim.Native.Nat.{ℕ, _+_}
 use mathlib.Core.Path.{_≡_}
 use mathlib.Core.List.{List, [], _∷_, _++_}
@@ -6,7 +6,7 @@ use lib.ListN.{replicate}
 use Rattle.layout.specs.Worked.{small, six, v, u, seven, nine, changed, trailer, pairOf, example}
 use Rattle.listing.specs.Listing.{listOf, outputOf}
 
--- a file and a room of so many points; number, place, length, leaks, touching and tested of the result, the room's front afterwards, behind which `points` points are left; what the program writes
+-- a file and a room of so many points; number, place, length, leaks, touching, tested and formerly held back of the result, the room's front afterwards, behind which `points` points are left; what the program writes
 pub record Case : Type 0 where
   pub file : List ℕ
   pub room : ℕ
@@ -16,6 +16,7 @@ pub record Case : Type 0 where
   pub leaks : ℕ
   pub touching : ℕ
   pub tested : ℕ
+  pub formerly : ℕ
   pub front : List ℕ
   pub points : ℕ
   pub output : List ℕ
@@ -30,6 +31,7 @@ pub record Shown (c : Case) : Type 0 where
   pub leaks : listOf (c .file) (pointsOf (c .room)) .result .leaks ≡ c .leaks
   pub touching : listOf (c .file) (pointsOf (c .room)) .result .touching ≡ c .touching
   pub tested : listOf (c .file) (pointsOf (c .room)) .result .tested ≡ c .tested
+  pub formerly : listOf (c .file) (pointsOf (c .room)) .result .«formerly_held_back» ≡ c .formerly
   pub room : listOf (c .file) (pointsOf (c .room)) .room ≡ c .front ++ pointsOf (c .points)
   pub output : outputOf (c .file) ≡ c .output
 
@@ -49,6 +51,17 @@ lastWith t = 116 ∷ 111 ∷ 117 ∷ 99 ∷ 104 ∷ 105 ∷ 110 ∷ 103 ∷ 32 �
 
 abbrev pub last : ℕ → List ℕ
 last t = lastWith ((48 + t) ∷ [])
+
+-- `formerly held back 0` with other digits in its place
+abbrev pub oldWith : List ℕ → List ℕ
+oldWith k = 102 ∷ 111 ∷ 114 ∷ 109 ∷ 101 ∷ 114 ∷ 108 ∷ 121 ∷ 32 ∷ 104 ∷ 101 ∷ 108 ∷ 100 ∷ 32 ∷ 98 ∷ 97 ∷ 99 ∷ 107 ∷ 32 ∷ (k ++ (10 ∷ []))
+
+abbrev pub old : ℕ → List ℕ
+old k = oldWith ((48 + k) ∷ [])
+
+-- the two closing lines
+abbrev pub ends : ℕ → ℕ → List ℕ
+ends t k = last t ++ old k
 
 -- `refused 13 at 72`
 abbrev pub refused13at72 : List ℕ
@@ -75,12 +88,15 @@ minusOne = 255 ∷ 255 ∷ 255 ∷ 255 ∷ []
 abbrev pub uOneWay : List ℕ
 uOneWay = six minusOne minusOne (small 1) minusOne minusOne (small 1)
 
--- in this order: test 9 with U of D and of E, training 7 with V, held back 5 with V, training 3 with V twice, test 4 with U of F
-abbrev pub mixed : List ℕ
-mixed =
+-- in this order: test 9 with U of D and of E, training 7 with V, 5 of set 2 with V, training 3 with V twice, test 4 with U of F; and the same with another set for 5
+abbrev pub mixedWith : ℕ → List ℕ
+mixedWith set =
     u ++ (uE ++ (v ++ (v ++ (v ++ (v ++ (uF
-    ++ (changed 9 0 2 0 1 0 ++ (changed 7 48 1 0 0 0 ++ (changed 5 72 1 0 2 0 ++ (changed 3 96 2 0 0 0 ++ (changed 4 144 1 0 1 0
+    ++ (changed 9 0 2 0 1 0 ++ (changed 7 48 1 0 0 0 ++ (changed 5 72 1 0 set 0 ++ (changed 3 96 2 0 0 0 ++ (changed 4 144 1 0 1 0
     ++ trailer 168 5 240)))))))))))
+
+abbrev pub mixed : List ℕ
+mixed = mixedWith 2
 
 abbrev pub oneWay : List ℕ
 oneWay = pairOf v uOneWay seven nine
@@ -154,7 +170,7 @@ uAtCorner = six (small 4) (small 4) (small 8) (small 4) (small 8) (small 8)
 abbrev pub uAside : List ℕ
 uAside = six (small 5) (small 0) (small 9) (small 0) (small 9) (small 4)
 
--- test 9 with (5,0),(9,0),(9,4) and (4,4),(8,4),(8,8), training 7 with V and a far V, held back 5 with V, test 4 with U of D, training 3 with V: near are the second of 9 with both V, and U of D with both
+-- test 9 with (5,0),(9,0),(9,4) and (4,4),(8,4),(8,8), training 7 with V and a far V, 5 of set 2 with V, test 4 with U of D, training 3 with V: near are the second of 9 with each V, and U of D with each
 abbrev pub nearAndFar : List ℕ
 nearAndFar =
     uAside ++ (uAtCorner ++ (v ++ (vFar ++ (v ++ (u ++ (v
@@ -179,62 +195,87 @@ largeIds = pairOf v u (changed 10 0 1 0 0 0) (255 ∷ 255 ∷ 255 ∷ 255 ∷ 24
 abbrev pub twelve : List ℕ
 twelve = u ++ (u ++ (u ++ (u ++ (v ++ (v ++ (v ++ (changed 9 0 4 0 1 0 ++ (changed 7 96 3 0 0 0 ++ trailer 168 2 204))))))))
 
+-- recording 7 of the example stored with set 2: all that there is to train on
+abbrev pub oldSeven : List ℕ
+oldSeven = changed 7 0 1 0 2 0
+
+-- no test recordings: 7 and 9 stored with set 2
+abbrev pub noTests : List ℕ
+noTests = pairOf v u oldSeven (changed 9 24 1 0 2 0)
+
+-- test 9 with U of D between 3 and 7, which are stored with set 2 and have V each
+abbrev pub around : List ℕ
+around = v ++ (u ++ (v ++ (changed 3 0 1 0 2 0 ++ (changed 9 24 1 0 1 0 ++ (changed 7 48 1 0 2 0 ++ trailer 72 3 120)))))
+
+-- recordings 0 to 9 stored with set 2, each with V: 372 bytes
+abbrev pub tenOld : List ℕ
+tenOld =
+    v ++ (v ++ (v ++ (v ++ (v ++ (v ++ (v ++ (v ++ (v ++ (v
+    ++ (changed 0 0 1 0 2 0 ++ (changed 1 24 1 0 2 0 ++ (changed 2 48 1 0 2 0 ++ (changed 3 72 1 0 2 0 ++ (changed 4 96 1 0 2 0
+    ++ (changed 5 120 1 0 2 0 ++ (changed 6 144 1 0 2 0 ++ (changed 7 168 1 0 2 0 ++ (changed 8 192 1 0 2 0 ++ (changed 9 216 1 0 2 0
+    ++ (small 240 ++ (small 10 ++ (116 ∷ 1 ∷ 0 ∷ 0 ∷ []))))))))))))))))))))))
+
 -- the example with a count of 65 recordings
 abbrev pub tooMany : List ℕ
 tooMany = v ++ (u ++ (seven ++ (nine ++ trailer 48 65 84)))
 
 -- ---- what comes of them
+abbrev pub listedOld : List ℕ → ℕ → ℕ → ℕ → ℕ → ℕ → ℕ → List ℕ → ℕ → Case
+listedOld file room length leaks touching tested formerly text points = record { file = file; room = room; number = 0; place = 0; length = length; leaks = leaks; touching = touching; tested = tested; formerly = formerly; front = text; points = points; output = text }
+
+-- of a file without set 2
 abbrev pub listed : List ℕ → ℕ → ℕ → ℕ → ℕ → ℕ → List ℕ → ℕ → Case
-listed file room length leaks touching tested text points = record { file = file; room = room; number = 0; place = 0; length = length; leaks = leaks; touching = touching; tested = tested; front = text; points = points; output = text }
+listed file room length leaks touching tested text points = listedOld file room length leaks touching tested 0 text points
 
 abbrev pub notListed : List ℕ → ℕ → ℕ → ℕ → List ℕ → Case
-notListed file room number place output = record { file = file; room = room; number = number; place = place; length = 0; leaks = 0; touching = 0; tested = 0; front = []; points = room; output = output }
+notListed file room number place output = record { file = file; room = room; number = number; place = place; length = 0; leaks = 0; touching = 0; tested = 0; formerly = 0; front = []; points = room; output = output }
 
 -- the list with one line, of test 9 and training 7, and that of none, with so many that only touch
 abbrev pub oneLine : List ℕ
-oneLine = first 1 ++ (line 9 7 1 ++ last 0)
+oneLine = first 1 ++ (line 9 7 1 ++ ends 0 0)
 
 abbrev pub noLine : ℕ → List ℕ
-noLine t = first 0 ++ last t
+noLine t = first 0 ++ ends t 0
 
 abbrev pub rooms : List Case
 rooms =
-    -- 01's example: in a room that is longer, in one of its length, in one that is a byte shorter, and in one that its first two lines would fit
-    listed example 51 42 1 0 1 oneLine 9
-    ∷ listed example 42 42 1 0 1 oneLine 0
-    ∷ notListed example 41 7 0 oneLine
+    -- 01's example: in a room that is longer, in one of its length, in one that is a byte shorter, and in ones that all lines but the last and its first two lines would fit
+    listed example 72 63 1 0 1 oneLine 9
+    ∷ listed example 63 63 1 0 1 oneLine 0
+    ∷ notListed example 62 7 0 oneLine
+    ∷ notListed example 42 7 0 oneLine
     ∷ notListed example 31 7 0 oneLine
     -- no recordings
-    ∷ listed (trailer 0 0 12) 19 19 0 0 0 (noLine 0) 0
-    ∷ notListed (trailer 0 0 12) 18 7 0 (noLine 0)
-    -- table order, held back left out, several pairs, recordings that only touch, one of them in two triangle pairs
-    ∷ listed mixed 66 65 2 2 6 (first 2 ++ (line 9 7 1 ++ (line 9 3 2 ++ last 2))) 1
+    ∷ listed (trailer 0 0 12) 40 40 0 0 0 (noLine 0) 0
+    ∷ notListed (trailer 0 0 12) 39 7 0 (noLine 0)
+    -- table order, set 2 among the training recordings, several pairs, recordings that only touch, one of them in two triangle pairs
+    ∷ listedOld mixed 110 109 3 3 8 1 (first 3 ++ (line 9 7 1 ++ (line 9 5 1 ++ (line 9 3 2 ++ ends 3 1)))) 1
     -- a part of an edge, a corner
-    ∷ listed (pairOf v uPart seven nine) 19 19 0 1 1 (noLine 1) 0
-    ∷ listed (pairOf v uCorner seven nine) 19 19 0 1 1 (noLine 1) 0
+    ∷ listed (pairOf v uPart seven nine) 40 40 0 1 1 (noLine 1) 0
+    ∷ listed (pairOf v uCorner seven nine) 40 40 0 1 1 (noLine 1) 0
     -- U and V not exchanged
-    ∷ listed oneWay 19 19 0 0 1 (noLine 0) 0
-    ∷ listed otherWay 19 19 0 1 1 (noLine 1) 0
+    ∷ listed oneWay 40 40 0 0 1 (noLine 0) 0
+    ∷ listed otherWay 40 40 0 1 1 (noLine 1) 0
     -- one pair touches and one overlaps: a line, and not among those that only touch
-    ∷ listed (bothKinds uF u) 42 42 1 0 2 oneLine 0
-    ∷ listed (bothKinds u uF) 42 42 1 0 2 oneLine 0
+    ∷ listed (bothKinds uF u) 63 63 1 0 2 oneLine 0
+    ∷ listed (bothKinds u uF) 63 63 1 0 2 oneLine 0
     -- one test recording overlaps a training recording and touches two others
-    ∷ listed oneAndTwo 42 42 1 2 3 (first 1 ++ (line 9 7 1 ++ last 2)) 0
+    ∷ listed oneAndTwo 63 63 1 2 3 (first 1 ++ (line 9 7 1 ++ ends 2 0)) 0
     -- by the computed area, and by the computed ring
-    ∷ listed (pairOf vRounded uRounded seven nine) 42 42 1 0 1 oneLine 0
-    ∷ listed (pairOf vTied uTied seven nine) 19 19 0 0 1 (noLine 0) 0
+    ∷ listed (pairOf vRounded uRounded seven nine) 63 63 1 0 1 oneLine 0
+    ∷ listed (pairOf vTied uTied seven nine) 40 40 0 0 1 (noLine 0) 0
     ∷ []
 
 abbrev pub counts : List Case
 counts =
     -- numbers of several digits
-    listed largeIds 52 52 1 0 1 (first 1 ++ (lineWith (52 ∷ 50 ∷ 57 ∷ 52 ∷ 57 ∷ 54 ∷ 55 ∷ 50 ∷ 57 ∷ 53 ∷ []) (49 ∷ 48 ∷ []) (49 ∷ []) ++ last 0)) 0
-    ∷ listed twelve 43 43 1 0 12 (first 1 ++ (lineWith (57 ∷ []) (55 ∷ []) (49 ∷ 50 ∷ []) ++ last 0)) 0
+    listed largeIds 73 73 1 0 1 (first 1 ++ (lineWith (52 ∷ 50 ∷ 57 ∷ 52 ∷ 57 ∷ 54 ∷ 55 ∷ 50 ∷ 57 ∷ 53 ∷ []) (49 ∷ 48 ∷ []) (49 ∷ []) ++ ends 0 0)) 0
+    ∷ listed twelve 64 64 1 0 12 (first 1 ++ (lineWith (57 ∷ []) (55 ∷ []) (49 ∷ 50 ∷ []) ++ ends 0 0)) 0
     -- of several triangles the second with the second, and a tie that turns on the order of U's vertices
-    ∷ listed seconds 42 42 1 0 2 oneLine 0
+    ∷ listed seconds 63 63 1 0 2 oneLine 0
     -- ten lines, and ten that only touch
-    ∷ listed (ten u) 250 250 10 0 10 (firstTen ++ (fiveLines 1 ++ (fiveLines 2 ++ last 0))) 0
-    ∷ listed (ten uF) 20 20 0 10 10 (first 0 ++ lastWith (49 ∷ 48 ∷ [])) 0
+    ∷ listed (ten u) 271 271 10 0 10 (firstTen ++ (fiveLines 1 ++ (fiveLines 2 ++ ends 0 0))) 0
+    ∷ listed (ten uF) 41 41 0 10 10 (first 0 ++ (lastWith (49 ∷ 48 ∷ []) ++ old 0)) 0
     -- a refused file, before the room is looked at
     ∷ notListed tooMany 51 13 72 refused13at72
     ∷ notListed tooMany 0 13 72 refused13at72
@@ -244,14 +285,31 @@ counts =
 abbrev pub boxes : List Case
 boxes =
     -- boxes that share no point, whatever rounding says; a corner of boxes, a centimetre between them; each pair whose boxes share a point counted, also where it leaks no more
-    listed (pairOf vBeyond uBeyond seven nine) 19 19 0 0 0 (noLine 0) 0
-    ∷ listed (pairOf vNeedle uBeside seven nine) 19 19 0 0 0 (noLine 0) 0
-    ∷ listed (pairOf v uAtCorner seven nine) 19 19 0 0 1 (noLine 0) 0
-    ∷ listed (pairOf v uAside seven nine) 19 19 0 0 0 (noLine 0) 0
-    ∷ listed nearAndFar 65 65 2 0 4 (first 2 ++ (line 4 7 1 ++ (line 4 3 1 ++ last 0))) 0
-    ∷ notListed nearAndFar 64 7 0 (first 2 ++ (line 4 7 1 ++ (line 4 3 1 ++ last 0)))
+    listed (pairOf vBeyond uBeyond seven nine) 40 40 0 0 0 (noLine 0) 0
+    ∷ listed (pairOf vNeedle uBeside seven nine) 40 40 0 0 0 (noLine 0) 0
+    ∷ listed (pairOf v uAtCorner seven nine) 40 40 0 0 1 (noLine 0) 0
+    ∷ listed (pairOf v uAside seven nine) 40 40 0 0 0 (noLine 0) 0
+    ∷ listedOld nearAndFar 109 109 3 0 6 1 (first 3 ++ (line 4 7 1 ++ (line 4 5 1 ++ (line 4 3 1 ++ ends 0 1)))) 0
+    ∷ notListed nearAndFar 108 7 0 (first 3 ++ (line 4 7 1 ++ (line 4 5 1 ++ (line 4 3 1 ++ ends 0 1))))
+    ∷ []
+
+abbrev pub olds : List Case
+olds =
+    -- set 2 as all that there is to train on: overlapping, only touching, apart
+    listedOld (pairOf v u oldSeven nine) 63 63 1 0 1 1 (first 1 ++ (line 9 7 1 ++ ends 0 1)) 0
+    ∷ listedOld (pairOf v uF oldSeven nine) 40 40 0 1 1 1 (first 0 ++ ends 1 1) 0
+    ∷ listedOld (pairOf v uE oldSeven nine) 40 40 0 0 0 1 (first 0 ++ ends 0 1) 0
+    -- no test recordings, though the two would overlap
+    ∷ listedOld noTests 40 40 0 0 0 2 (first 0 ++ ends 0 2) 0
+    -- before and behind the test recording in the table, and not with each other
+    ∷ listedOld around 86 86 2 0 2 2 (first 2 ++ (line 9 3 1 ++ (line 9 7 1 ++ ends 0 2))) 0
+    -- a number of two digits, and a room that is a byte too short for it
+    ∷ listedOld tenOld 41 41 0 0 0 10 (first 0 ++ (last 0 ++ oldWith (49 ∷ 48 ∷ []))) 0
+    ∷ notListed tenOld 40 7 0 (first 0 ++ (last 0 ++ oldWith (49 ∷ 48 ∷ [])))
+    -- the same recordings with 0 for 2: the same but for the last line
+    ∷ listed (mixedWith 0) 109 109 3 3 8 (first 3 ++ (line 9 7 1 ++ (line 9 5 1 ++ (line 9 3 2 ++ ends 3 0)))) 0
     ∷ []
 
 -- all of them
 abbrev pub cases : List Case
-cases = rooms ++ (counts ++ boxes)
+cases = rooms ++ (counts ++ (boxes ++ olds))

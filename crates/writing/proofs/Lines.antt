@@ -11,7 +11,7 @@ use lib.ListN.{length, length-append}
 use Rattle.text.specs.Room.{Measured, Put}
 use Rattle.text.proofs.Room.{put-none, put-as, put-two}
 use Rattle.listing.specs.Turns.{each}
-use Rattle.listing.specs.Words.{firstLine, leakLine, leakLines, closingLine, textOf}
+use Rattle.listing.specs.Words.{firstLine, leakLine, leakLines, touchingLine, formerlyLine, allButLast, textOf}
 use Rattle.listing.proofs.Turns.{each-append, each-one}
 use Rattle.writing.specs.Triples.{leakAt, leaksIn, linesIn}
 
@@ -26,16 +26,17 @@ unfolding leaksIn linesIn leakLines
 lines-are found zero = unfold each in refl
 lines-are found (suc k) = ap₂ _++_ (lines-are found k) (sym (each-one leakLine (leakAt found k))) ∙ sym (each-append leakLine (leaksIn found k) (leakAt found k ∷ []))
 
-pub text-is : (found : List ℕ) (k t : ℕ) → firstLine k ++ linesIn found k ++ closingLine t ≡ textOf (leaksIn found k) t
-unfolding textOf
-text-is found k t = ap (λ front. front ++ closingLine t) (ap₂ _++_ (ap firstLine (sym (how-many found k))) (lines-are found k))
+pub text-is : (found : List ℕ) (k t h : ℕ) → firstLine k ++ linesIn found k ++ touchingLine t ++ formerlyLine h ≡ textOf (leaksIn found k) t h
+unfolding textOf allButLast
+text-is found k t h = ap (λ front. front ++ touchingLine t ++ formerlyLine h) (ap₂ _++_ (ap firstLine (sym (how-many found k))) (lines-are found k))
 
 -- the text is measured by the measures of its parts
-pub text-measured : (found : List ℕ) (k t : ℕ) {a b c : ℕ} → Measured (firstLine k) a → Measured (linesIn found k) b → Measured (closingLine t) c → Measured (textOf (leaksIn found k) t) (a + b + c)
-text-measured found k t p q r =
-    ap₂ _+_ (ap₂ _+_ p q) r
-    ∙ (ap (λ n. n + length (closingLine t)) (sym (length-append (firstLine k) (linesIn found k)))
-    ∙ (sym (length-append (firstLine k ++ linesIn found k) (closingLine t)) ∙ ap length (text-is found k t)))
+pub text-measured : (found : List ℕ) (k t h : ℕ) {a b c d : ℕ} → Measured (firstLine k) a → Measured (linesIn found k) b → Measured (touchingLine t) c → Measured (formerlyLine h) d → Measured (textOf (leaksIn found k) t h) (a + b + c + d)
+text-measured found k t h p q r s =
+    let lines = length-append (firstLine k) (linesIn found k) in
+    let body = length-append (firstLine k ++ linesIn found k) (touchingLine t) in
+    let whole = length-append (firstLine k ++ linesIn found k ++ touchingLine t) (formerlyLine h) in
+    omega (arith, p, q, r, s, lines, body, whole) ∙ ap length (text-is found k t h)
 
 -- ---- one more line
 lines-suc : (l : List ℕ) (c : ℕ) → linesIn l (c + 1) ≡ linesIn l c ++ leakLine (leakAt l c)

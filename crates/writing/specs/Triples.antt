@@ -33,9 +33,9 @@ lesser a b = cond (ltb a b) a b
 unfoldable pub heldIn : List ℕ → ℕ → ℕ
 heldIn found k = lesser k (lesser (length found / 3) 4096)
 
--- what is counted beside them
-abbrev pub besideIn : Counts → Beside
-besideIn c = record { touching = c .touching; tested = c .tested }
+-- what is counted beside them, and how many recordings were formerly held back
+abbrev pub besideIn : Counts → ℕ → Beside
+besideIn c formerly = record { touching = c .touching; tested = c .tested; formerlyHeldBack = formerly }
 
 -- what is promised of writing them, with what is counted beside them: the result and the room afterwards
 pub record WrittenAs (ls : List Leak) (b : Beside) (room : List ℕ) (result : Listed) (after : List ℕ) : Type 0 where

@@ -20,6 +20,7 @@ pub fn no_list(number: u32, place: u32) -> listing::Listed
         leaks: 0,
         touching: 0,
         tested: 0,
+        formerly_held_back: 0,
     }
 }
 
@@ -63,29 +64,31 @@ fn put_lines(room: &mut [u8], at: usize, found: &[u32], k: usize) -> usize
     to
 }
 
-// The list of the first k leaks, with so many pairs of recordings that only touch, at the front of the room, and its length. Where it does not fit, nothing is put, and the length is 0.
-fn put_list(room: &mut [u8], found: &[u32], k: usize, touching: u32) -> usize
+// The list of the first k leaks, with so many pairs of recordings that only touch and so many recordings that were formerly held back, at the front of the room, and its length. Where it does not fit, nothing is put, and the length is 0.
+fn put_list(room: &mut [u8], found: &[u32], k: usize, touching: u32, formerly: u32) -> usize
     requires { ⌜ (k ≤ 4096) × (3 * k ≤ length (now found)) ⌝ }
-    ensures { λ r. ⌜ Put (now (room .entry)) 0 (textOf (leaksIn (now (found .entry)) k) touching) (now (room .exit)) r ⌝ }
+    ensures { λ r. ⌜ Put (now (room .entry)) 0 (textOf (leaksIn (now (found .entry)) k) touching formerly) (now (room .exit)) r ⌝ }
 {
     let count = k as u32;
     let first = wording::first_length(count);
-    let last = wording::closing_length(touching);
-    let size = first + lines_length(found, k) + last;
+    let behind = wording::touching_length(touching);
+    let last = wording::formerly_length(formerly);
+    let size = first + lines_length(found, k) + behind + last;
     if room.len() < size {
         return 0;
     }
     let p = wording::put_first(room, count);
     let q = put_lines(room, p, found, k);
-    wording::put_closing(room, q, touching)
+    let r = wording::put_touching(room, q, touching);
+    wording::put_formerly(room, r, formerly)
 }
 
-// The list of the leaks that were found, of as many as there are numbers for and 4,096 at most, with what was counted beside them; or refusal 7 where the room is shorter than the list, and the room as it was.
-pub fn write(room: &mut [u8], found: &[u32], c: listing::Counts) -> listing::Listed
-    ensures { λ r. ⌜ WrittenAs (leaksIn (now (found .entry)) (heldIn (now (found .entry)) (c .leaks))) (besideIn c) (now (room .entry)) r (now (room .exit)) ⌝ }
+// The list of the leaks that were found, of as many as there are numbers for and 4,096 at most, with what was counted beside them and how many recordings were formerly held back; or refusal 7 where the room is shorter than the list, and the room as it was.
+pub fn write(room: &mut [u8], found: &[u32], c: listing::Counts, formerly: u32) -> listing::Listed
+    ensures { λ r. ⌜ WrittenAs (leaksIn (now (found .entry)) (heldIn (now (found .entry)) (c .leaks))) (besideIn c formerly) (now (room .entry)) r (now (room .exit)) ⌝ }
 {
     let n = lesser(c.leaks as usize, lesser(found.len() / 3, 4096));
-    let size = put_list(room, found, n, c.touching);
+    let size = put_list(room, found, n, c.touching, formerly);
     // No list is empty, so nothing was put.
     if size == 0 {
         return no_list(7, 0);
@@ -97,5 +100,6 @@ pub fn write(room: &mut [u8], found: &[u32], c: listing::Counts) -> listing::Lis
         leaks: n as u32,
         touching: c.touching,
         tested: c.tested,
+        formerly_held_back: formerly,
     }
 }

@@ -6,12 +6,13 @@ use std::process::ExitCode;
 use second::files::shown::text_of;
 use second::files::worked::{in_turn, EXAMPLE};
 use second::footprint::{Refused, MOST_BYTES};
-use second::leaks::{whole_list, written, Whole};
+use second::leaks::{leaks, whole_list, written, Whole};
 use second::library;
 use second::lists::coverage::Coverage;
 use second::lists::largest::{self, Large};
 use second::lists::rooms::{rooms_for, unwritten, Room};
 use second::lists::tally::Tally;
+use second::lists::twins::Side;
 use second::lists::worked::EXAMPLE_LIST;
 use second::lists::{draw, pairs_in, CLASSES};
 use second::pages::{endless, endless_room, Pages};
@@ -19,10 +20,13 @@ use second::random::Random;
 use second::tally::{covered, print_rows};
 
 const SEED: u64 = 20_011_946;
-const FILES: usize = 3_000;
+const FILES: usize = 3_600;
 /// From this many files on everything counted must have been hit often enough.
-const COVERING: usize = 3_000;
+const COVERING: usize = 3_600;
 const ENOUGH: usize = 20;
+
+const SIDES: [Side; 2] =
+    [Side { name: "library", leaks: library::leaks }, Side { name: "second program", leaks }];
 
 fn main() -> ExitCode {
     let (seed, files) = match arguments() {
@@ -94,7 +98,8 @@ fn compare_all(seed: u64, files: usize) -> Result<Tally, String> {
             _ => 12,
         };
         let rooms = rooms_for(coverage.text(), many, &mut random);
-        memory.compare(&file, &whole, &rooms, &mut random).map_err(|report| {
+        let compared = memory.compare(&file, &whole, &rooms, &mut random);
+        compared.and_then(|()| compare_with_twin(&file, coverage.held_back())).map_err(|report| {
             let name = &tally.rows[class].name;
             format!("difference at file {number} of seed {seed}, class '{name}'\n{report}")
         })?;
@@ -127,6 +132,14 @@ fn compare_endless() -> Result<(), String> {
         return Err(format!("difference at a room of {length} bytes\n{of_library:?}"));
     }
     Ok(())
+}
+
+/// Either program, each with its own list: where nothing is held back there is no twin.
+fn compare_with_twin(file: &[u8], held_back: u32) -> Result<(), String> {
+    if held_back == 0 {
+        return Ok(());
+    }
+    SIDES.iter().try_for_each(|side| side.same_as_twin(file).map_err(|report| report + &text_of(file)))
 }
 
 /// What is known of its list beforehand is looked at as well.

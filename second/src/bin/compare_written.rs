@@ -13,6 +13,7 @@ use second::drafts::shown::text_of;
 use second::drafts::tally::Tally;
 use second::drafts::worked::{all, example, in_turn, Worked};
 use second::drafts::{draw, CLASSES};
+use second::files::sets::as_training;
 use second::files::shown;
 use second::files::worked::EXAMPLE;
 use second::footprint::{judge, recording, MOST_BYTES};
@@ -23,9 +24,9 @@ use second::tally::{covered, print_rows, Row};
 use second::writer::{write, Handed, Written};
 
 const SEED: u64 = 20_011_946;
-const DRAFTS: usize = 12_000;
+const DRAFTS: usize = 14_400;
 /// From this many drafts on everything counted must have been hit often enough.
-const COVERING: usize = 12_000;
+const COVERING: usize = 14_400;
 const ENOUGH: usize = 50;
 /// For so many drafts, one file of each source is read and written again.
 const DRAFTS_PER_FILE: usize = 24;
@@ -229,15 +230,26 @@ fn write_again(seed: u64, files: usize) -> Result<Vec<Row>, String> {
     for number in 0..SOURCES.len() * files {
         let source = number % SOURCES.len();
         let file = file_from(source, &mut random);
-        for side in &SIDES {
-            let draft = side.write_again(&file).map_err(|report| {
-                let text = shown::text_of(&file);
-                format!("difference at file {number} of seed {seed} to be written again\n{report}\n{text}")
-            })?;
-            if side.name == SIDES[0].name {
-                round_trips::count(&mut rows, source, &draft);
+        for file in with_twin(file) {
+            for side in &SIDES {
+                let draft = side.write_again(&file).map_err(|report| {
+                    let text = shown::text_of(&file);
+                    format!(
+                        "difference at file {number} of seed {seed} to be written again\n{report}\n{text}"
+                    )
+                })?;
+                if side.name == SIDES[0].name {
+                    round_trips::count(&mut rows, source, &draft);
+                }
             }
         }
     }
     Ok(rows)
+}
+
+/// Where something is held back, the same file with training in its place goes with it.
+fn with_twin(file: Vec<u8>) -> Vec<Vec<u8>> {
+    let mut files = vec![as_training(&file), file];
+    files.dedup();
+    files
 }

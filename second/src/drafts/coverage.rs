@@ -55,6 +55,11 @@ impl<'a> Coverage<'a> {
         self.faults.iter().any(|fault| fault.reason == reason)
     }
 
+    /// The same of one entry or triangle.
+    pub fn has_at(&self, reason: Reason, at: usize) -> bool {
+        self.faults.contains(&Fault { reason, at })
+    }
+
     /// Refused at the first stage, though the second would have been another refusal.
     pub fn before(&self, first: usize, second: usize) -> bool {
         self.at(first) && self.faults.iter().any(|fault| fault.stage() == second)

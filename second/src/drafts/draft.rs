@@ -2,6 +2,7 @@
 
 use crate::files;
 use crate::files::draft::{some_place, Triangle};
+use crate::files::sets::trained_on;
 use crate::footprint::stored::{ENTRY, TRAILER, TRIANGLE};
 use crate::random::Random;
 use crate::writer::{Handed, NUMBERS};
@@ -14,13 +15,14 @@ pub struct Draft {
     pub numbers: Vec<i32>,
 }
 
-/// The lists that a file of these recordings is written from.
+/// The lists that a file of these recordings is written from, with training in the place of what is held
+/// back, as no writer takes that.
 impl From<files::draft::Draft> for Draft {
     fn from(file: files::draft::Draft) -> Draft {
         Draft {
             ids: file.table.iter().map(|line| line.id).collect(),
             counts: file.table.iter().map(|line| u32::from(line.count)).collect(),
-            sets: file.table.iter().map(|line| line.set).collect(),
+            sets: file.table.iter().map(|line| trained_on(line.set)).collect(),
             numbers: file.triangles.concat(),
         }
     }

@@ -5,13 +5,14 @@ use super::coverage::Coverage;
 use super::faults::sum_of;
 use crate::files::coverage::Of;
 use crate::files::shapes::{cross, equal_vertices, larger_product, only_out_of_range};
+use crate::footprint::stored::HELD_BACK;
 use crate::footprint::MOST_BYTES;
 use crate::writer::Reason;
 
 pub type Event = (&'static str, fn(&Coverage) -> bool);
 
 /// Looked at in good drafts only.
-pub const WRITTEN: [Event; 21] = [
+pub const WRITTEN: [Event; 22] = [
     ("no recordings", |c| recordings(c) == 0),
     ("1 recording", |c| recordings(c) == 1),
     ("2 recordings", |c| recordings(c) == 2),
@@ -21,7 +22,8 @@ pub const WRITTEN: [Event; 21] = [
     ("65,532 bytes, which no file exceeds", |c| c.draft.length() == 65_532),
     ("set 0", |c| c.draft.sets.contains(&0)),
     ("set 1", |c| c.draft.sets.contains(&1)),
-    ("set 2", |c| c.draft.sets.contains(&2)),
+    ("set 0 in every entry of several", |c| recordings(c) > 1 && c.draft.sets.iter().all(|set| *set == 0)),
+    ("set 1 in every entry of several", |c| recordings(c) > 1 && c.draft.sets.iter().all(|set| *set == 1)),
     ("id 0", |c| c.draft.ids.contains(&0)),
     ("id 4,294,967,295", |c| c.draft.ids.contains(&u32::MAX)),
     ("two ids that differ in their first byte only", |c| near_ids(c, 0xff)),
@@ -47,7 +49,21 @@ pub const RECORDINGS: [Event; 8] = [
     ("hundreds", |c| c.draft.recordings() >= 100),
 ];
 
-pub const AT_ENTRY: [Event; 17] = [
+pub const AT_ENTRY: [Event; 27] = [
+    ("14, set 2", is_held_back),
+    ("14, set 2, the only entry", |c| is_held_back(c) && recordings(c) == 1),
+    ("14, set 2, first of several entries", |c| is_held_back(c) && recordings(c) > 1 && c.place() == 0),
+    ("14, set 2, middle entry", |c| is_held_back(c) && c.entry() == Of::Middle),
+    ("14, set 2, last entry", |c| is_held_back(c) && c.entry() == Of::Last),
+    ("14, set 2, the 64th entry of 64", |c| is_held_back(c) && c.place() == 63 && recordings(c) == 64),
+    ("14, set 2, beyond the 64th entry", |c| is_held_back(c) && c.place() >= 64),
+    ("14, set 2 of one entry, and nothing else", |c| is_held_back(c) && c.refused_alone_for(Reason::Set)),
+    ("14, set 2 in every entry of several", |c| {
+        is_held_back(c) && recordings(c) > 1 && c.draft.sets.iter().all(|set| *set == 2)
+    }),
+    ("15 at once, though there is set 2", |c| {
+        (c.has(Reason::Lengths) || c.has(Reason::BrokenOff)) && c.draft.sets.contains(&2)
+    }),
     ("14, set 3", |c| is_of_set(c, 3, 3)),
     ("14, set 4 to 127", |c| is_of_set(c, 4, 127)),
     ("14, set 128 to 130", |c| is_of_set(c, 128, 130)),
@@ -67,6 +83,20 @@ pub const AT_ENTRY: [Event; 17] = [
     ("16, more than 64 entries apart", |c| is_twin(c, |twin, k| k - twin > 64)),
     ("16, both beyond the 64th entry", |c| is_twin(c, |twin, _| twin >= 64)),
     ("16, the 64th entry of 64", |c| c.refused_for(Reason::Id) && c.place() == 63 && recordings(c) == 64),
+];
+
+/// Where the set that is retired is looked at before what else is wrong, and where behind it.
+pub const HELD_BACK_ORDERS: [Event; 8] = [
+    ("14 for set 2 before 16 of the same entry", |c| is_held_back(c) && c.has_at(Reason::Id, c.place())),
+    ("14 for set 2 before 16 of the next entry", |c| is_held_back(c) && c.has_at(Reason::Id, c.place() + 1)),
+    ("16 before 14 for set 2 of the next entry", |c| {
+        c.refused_for(Reason::Id) && c.draft.sets.get(c.place() + 1) == Some(&2)
+    }),
+    ("14 for set 2 before 15 for the sum", |c| is_held_back(c) && c.has(Reason::Sum)),
+    ("14 for set 2 before 17", |c| is_held_back(c) && c.has(Reason::Range)),
+    ("14 for set 2 before 18", |c| is_held_back(c) && c.has(Reason::ZeroArea)),
+    ("14 for set 2 before 13", |c| is_held_back(c) && c.has(Reason::TooManyRecordings)),
+    ("14 for set 2 before 19 for the length", |c| is_held_back(c) && c.has(Reason::TooLong)),
 ];
 
 pub const AT_SUM: [Event; 14] = [
@@ -174,6 +204,11 @@ fn near_ids(c: &Coverage, byte: u32) -> bool {
 
 fn is_of_set(c: &Coverage, least: u8, most: u8) -> bool {
     c.refused_for(Reason::Set) && (least..=most).contains(&c.draft.sets[c.place()])
+}
+
+/// Refused for the set that is retired.
+fn is_held_back(c: &Coverage) -> bool {
+    is_of_set(c, HELD_BACK, HELD_BACK)
 }
 
 fn is_twin(c: &Coverage, test: fn(usize, usize) -> bool) -> bool {

@@ -65,7 +65,7 @@ fn look_at_recordings(draft: &Draft, look: Look) {
     let mut seen = HashSet::new();
     for k in 0..draft.recordings() {
         look(draft.counts[k] == 0, Reason::NoTriangles, k);
-        look(draft.sets[k] > 2, Reason::Set, k);
+        look(draft.sets[k] > 1, Reason::Set, k);
         look(!seen.insert(draft.ids[k]), Reason::Id, k);
     }
 }

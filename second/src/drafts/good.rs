@@ -2,6 +2,7 @@
 
 use super::draft::Draft;
 use crate::files::{good, shapes};
+use crate::footprint::stored::{TEST, TRAINING};
 use crate::random::Random;
 
 /// Numbers of recordings that are at the limit, beside it or far beyond.
@@ -9,6 +10,12 @@ pub fn of_recordings(random: &mut Random, counts: &[usize]) -> Draft {
     let recordings = random.pick(counts);
     let most = if recordings > 66 { 1 } else { 2 };
     good::made(random, recordings, most, shapes::any).into()
+}
+
+pub fn of_one_set(random: &mut Random) -> Draft {
+    let mut draft: Draft = good::few(random).into();
+    draft.sets.fill(random.pick(&[TRAINING, TEST]));
+    draft
 }
 
 /// A recording whose count takes two bytes, before or behind others.

@@ -7,13 +7,14 @@ use super::worked::V;
 /// Its name, its number, and how it is made.
 pub struct Long(pub &'static str, pub u32, pub fn() -> Draft);
 
-pub const LONG: [Long; 19] = [
+pub const LONG: [Long; 20] = [
     Long("3,000 recordings", 13, || recordings(3_000)),
     Long("the last of 3,000 ids is the first", 16, || with(recordings(3_000), |d| d.ids[2_999] = d.ids[0])),
     Long("the last of 3,000 ids is the one before", 16, || {
         with(recordings(3_000), |d| d.ids[2_999] = d.ids[2_998])
     }),
     Long("the last of 3,000 ids is another", 16, || with(recordings(3_000), |d| d.ids[2_999] = d.ids[1_700])),
+    Long("the last of 3,000 sets is 2", 14, || with(recordings(3_000), |d| d.sets[2_999] = 2)),
     Long("the last of 3,000 sets is 3", 14, || with(recordings(3_000), |d| d.sets[2_999] = 3)),
     Long("the last of 3,000 counts is zero", 14, || with(recordings(3_000), |d| d.counts[2_999] = 0)),
     Long("the last of 3,000 counts is too large", 15, || with(recordings(3_000), |d| d.counts[2_999] = 2)),
@@ -29,7 +30,7 @@ pub const LONG: [Long; 19] = [
     }),
     Long("65,538 triangles, the count 65,537", 15, || with(one_of(65_538), |d| d.counts[0] = 65_537)),
     Long("65,536 triangles and 64 recordings more", 13, || {
-        with(one_of(65_536), |d| (0..64).for_each(|k| d.add(8 + k, 2, V)))
+        with(one_of(65_536), |d| (0..64).for_each(|k| d.add(8 + k, 1, V)))
     }),
     Long("65,536 triangles and the same id again", 16, || with(one_of(65_536), |d| d.add(7, 0, V))),
     Long("100,000 triangles of one recording", 19, || one_of(100_000)),
@@ -45,7 +46,7 @@ pub const LONG: [Long; 19] = [
 /// No two ids alike, nor in any order.
 fn recordings(count: u32) -> Draft {
     let mut draft = Draft::default();
-    (0..count).for_each(|k| draft.add(k.wrapping_mul(0x9e37_79b1), (k % 3) as u8, V));
+    (0..count).for_each(|k| draft.add(k.wrapping_mul(0x9e37_79b1), (k % 2) as u8, V));
     draft
 }
 

@@ -13,7 +13,7 @@ type Plant = fn(&mut Worked);
 /// A fault of every stage, in the order of the tests, that can be planted beside any other in `three`.
 const FAULTS: [(u32, Plant); 8] = [
     (15, |w| w.draft.sets.push(0)),
-    (14, |w| w.draft.sets[1] = 3),
+    (14, |w| w.draft.sets[1] = 2),
     (16, |w| w.draft.ids[2] = 0),
     (15, |w| w.draft.counts[2] += 1),
     (17, |w| w.draft.numbers[9] = OVER),
@@ -48,6 +48,11 @@ fn within() -> Vec<Worked> {
         refused(number, draft)
     };
     vec![
+        of(14, |d| (d.ids[1], d.sets[1]) = (0, 2)),
+        of(14, |d| (d.ids[2], d.sets[2]) = (0, 2)),
+        of(14, |d| (d.ids[1], d.sets[0]) = (0, 2)),
+        of(14, |d| (d.ids[2], d.sets[1]) = (0, 2)),
+        of(16, |d| (d.ids[1], d.sets[2]) = (0, 2)),
         of(14, |d| (d.ids[1], d.sets[1]) = (0, 3)),
         of(14, |d| (d.ids[1], d.counts[1]) = (0, 0)),
         of(14, |d| (d.ids[2], d.counts[1]) = (0, 0)),

@@ -28,6 +28,15 @@ pub fn two(random: &mut Random) -> Draft {
     with(base(random), &stages[..2], random)
 }
 
+/// The set that is retired, and a fault of any other stage, or more triangles than a file can have.
+pub fn held_back_and_another(random: &mut Random) -> Draft {
+    let draft = match random.pick(&[0, 2, 3, 4, 5, 6, 7]) {
+        7 => good::far_too_long(random),
+        stage => with(base(random), &[stage], random),
+    };
+    spoiled(draft, random, spoils::held_back)
+}
+
 pub fn the_same_twice(random: &mut Random) -> Draft {
     let stage = random.below(SPOILS.len());
     with(base(random), &[stage, stage], random)

@@ -1,8 +1,9 @@
-//! There and back: what is written is read, and what is read is written again.
+//! There and back: what is written is read, and what is read is written again, or refused if something in it
+//! is held back.
 
 use super::draft::Draft;
 use crate::files::{self, Class};
-use crate::footprint::stored::TRIANGLE;
+use crate::footprint::stored::{HELD_BACK, TRIANGLE};
 use crate::footprint::{judge, Entry, Verdict};
 use crate::lists;
 use crate::random::Random;
@@ -45,14 +46,21 @@ impl Side {
         Ok(())
     }
 
-    /// What the reader gets from a good file and hands to the writer must come back as the very bytes.
+    /// What the reader gets from a good file and hands to the writer must come back as the very bytes. If a
+    /// recording is held back it must be refused, and the room left as it was.
     pub fn write_again(&self, file: &[u8]) -> Result<Draft, String> {
         let draft = self.got_from(file).ok_or(format!("the reader of the {} does not read it", self.name))?;
         // Another byte at every place.
-        let mut room: Vec<u8> = file.iter().map(|byte| !byte).collect();
+        let before: Vec<u8> = file.iter().map(|byte| !byte).collect();
+        let mut room = before.clone();
         let written = (self.write)(draft.handed(), &mut room);
-        if written != (Written { number: 0, place: 0, length: file.len() }) || room != file {
-            return Err(format!("the writer of the {} writes another file: {written:?}", self.name));
+        let (expected, contents) = if draft.sets.contains(&HELD_BACK) {
+            (Written { number: 14, place: 0, length: 0 }, &before[..])
+        } else {
+            (Written { number: 0, place: 0, length: file.len() }, file)
+        };
+        if written != expected || room != contents {
+            return Err(format!("the writer of the {} writes something else: {written:?}", self.name));
         }
         Ok(draft)
     }
@@ -102,29 +110,61 @@ pub fn file_from(source: usize, random: &mut Random) -> Vec<u8> {
 
 type Event = (&'static str, fn(&Draft) -> bool);
 
-const EVENTS: [Event; 6] = [
+/// Looked at in files that come back as the very bytes.
+const WRITTEN: [Event; 8] = [
     ("no recordings", |d| d.ids.is_empty()),
     ("1 recording", |d| d.ids.len() == 1),
     ("64 recordings", |d| d.ids.len() == 64),
-    ("held back ones among them", |d| d.sets.contains(&2)),
+    ("sets 0 and 1 among them", |d| d.sets.contains(&0) && d.sets.contains(&1)),
+    ("set 0 alone", |d| !d.sets.is_empty() && d.sets.iter().all(|set| *set == 0)),
+    ("set 1 alone", |d| !d.sets.is_empty() && d.sets.iter().all(|set| *set == 1)),
     ("a count over 255", |d| d.counts.iter().any(|count| *count > 255)),
     ("65,532 bytes", |d| d.length() == 65_532),
 ];
 
-/// How often there was what in files that were written again, and first, where they are from. The longest
-/// take so long that few must do.
+/// Looked at in files that are refused, as something is held back.
+const REFUSED: [Event; 9] = [
+    ("the only recording", |d| d.sets == [HELD_BACK]),
+    ("one of several recordings", |d| d.sets.len() > 1 && held_back_in(d) == 1),
+    ("the first alone of several", |d| is_alone(d, 0)),
+    ("the last alone of several", |d| is_alone(d, d.sets.len() - 1)),
+    ("several recordings", |d| held_back_in(d) > 1),
+    ("all of several recordings", |d| d.sets.len() > 1 && held_back_in(d) == d.sets.len()),
+    ("64 recordings", |d| d.ids.len() == 64),
+    ("a count over 255", |d| d.counts.iter().any(|count| *count > 255)),
+    ("65,532 bytes", |d| d.length() == 65_532),
+];
+
+fn held_back_in(draft: &Draft) -> usize {
+    draft.sets.iter().filter(|set| **set == HELD_BACK).count()
+}
+
+fn is_alone(draft: &Draft, entry: usize) -> bool {
+    draft.sets.len() > 1 && held_back_in(draft) == 1 && draft.sets[entry] == HELD_BACK
+}
+
+/// How often there was what in files that were to be written again, and first, where they are from: those
+/// that came back, then those that were refused. The longest take so long that few must do.
 pub fn rows() -> Vec<Row> {
-    let names = SOURCES.iter().map(|source| source.0).chain(EVENTS.iter().map(|event| event.0));
-    let row =
-        |name: &str| Row { table: "written again (5 of each will do)", name: name.to_string(), count: 0 };
-    names.map(row).collect()
+    let of = |table: &'static str, events: &[Event]| -> Vec<Row> {
+        let names = SOURCES.iter().map(|source| source.0).chain(events.iter().map(|event| event.0));
+        names.map(|name| Row { table, name: name.to_string(), count: 0 }).collect()
+    };
+    let mut rows = of("written again (5 of each will do)", &WRITTEN);
+    rows.extend(of("held back, not written again (5 of each will do)", &REFUSED));
+    rows
 }
 
 pub const ENOUGH: usize = 5;
 
 pub fn count(rows: &mut [Row], source: usize, draft: &Draft) {
+    let (written, refused) = rows.split_at_mut(SOURCES.len() + WRITTEN.len());
+    let (rows, events) = match held_back_in(draft) {
+        0 => (written, &WRITTEN[..]),
+        _ => (refused, &REFUSED[..]),
+    };
     rows[source].count += 1;
-    for (row, (_, test)) in rows[SOURCES.len()..].iter_mut().zip(EVENTS) {
+    for (row, (_, test)) in rows[SOURCES.len()..].iter_mut().zip(events) {
         row.count += usize::from(test(draft));
     }
 }
@@ -132,6 +172,7 @@ pub fn count(rows: &mut [Row], source: usize, draft: &Draft) {
 #[cfg(test)]
 mod tests {
     use super::*;
+    use crate::files::sets::as_training;
     use crate::footprint::recording;
     use crate::writer::write;
 
@@ -141,9 +182,11 @@ mod tests {
         let mut random = Random::new(8);
         for source in (0..SOURCES.len()).cycle().take(200) {
             let file = file_from(source, &mut random);
-            let draft = side.write_again(&file).expect("the very bytes");
-            let all: Vec<usize> = (0..draft.ids.len()).collect();
-            side.read_back(&file, &draft, &all).expect("the same recordings");
+            for file in [as_training(&file), file] {
+                let draft = side.write_again(&file).expect("the very bytes, or 14");
+                let all: Vec<usize> = (0..draft.ids.len()).collect();
+                side.read_back(&file, &draft, &all).expect("the same recordings");
+            }
         }
     }
 }

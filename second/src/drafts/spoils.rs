@@ -2,6 +2,7 @@
 
 use super::draft::Draft;
 use crate::files::shapes;
+use crate::footprint::stored::HELD_BACK;
 use crate::random::Random;
 use crate::writer::NUMBERS;
 
@@ -11,7 +12,7 @@ pub type Spoil = fn(&mut Draft, &mut Random);
 /// room, or thousands of triangles.
 pub const SPOILS: [&[Spoil]; 7] = [
     &[lengths, broken_off, lengths_and_broken_off],
-    &[no_triangles, set, set_and_id],
+    &[no_triangles, set, held_back, set_and_id],
     &[id],
     &[sum, wrapping_sum, wrapping_multiple, huge_count],
     &[coordinate, coordinate, coordinate_of_flat],
@@ -76,6 +77,29 @@ pub fn set(draft: &mut Draft, random: &mut Random) {
     }
 }
 
+/// The set that is retired, in one entry, in some, in all behind one, or in all.
+pub fn held_back(draft: &mut Draft, random: &mut Random) {
+    if let Some(k) = draft.some_recording(random) {
+        draft.sets[k] = HELD_BACK;
+        match random.below(6) {
+            0 => draft.sets.iter_mut().filter(|_| random.once_in(2)).for_each(|set| *set = HELD_BACK),
+            1 => draft.sets[k..].fill(HELD_BACK),
+            2 => draft.sets.fill(HELD_BACK),
+            _ => {}
+        }
+    }
+}
+
+/// The same of one entry, and an id already seen of the next or of the one before it.
+pub fn held_back_beside_id(draft: &mut Draft, random: &mut Random) {
+    if draft.recordings() > 2 {
+        let k = 1 + random.below(draft.recordings() - 2);
+        let (held_back, twin) = random.pick(&[(k, k + 1), (k + 1, k)]);
+        draft.sets[held_back] = HELD_BACK;
+        draft.ids[twin] = draft.ids[random.below(k)];
+    }
+}
+
 /// The id of the previous entry, the first one or any before it.
 pub fn id(draft: &mut Draft, random: &mut Random) {
     if draft.recordings() > 1 {
@@ -91,7 +115,7 @@ pub fn id(draft: &mut Draft, random: &mut Random) {
 fn set_and_id(draft: &mut Draft, random: &mut Random) {
     if draft.recordings() > 1 {
         let k = 1 + random.below(draft.recordings() - 1);
-        draft.sets[k] = random.pick(&[3, 255]);
+        draft.sets[k] = random.pick(&[HELD_BACK, HELD_BACK, 3, 255]);
         draft.ids[k] = draft.ids[random.below(k)];
     }
 }
@@ -190,6 +214,6 @@ pub fn too_many(draft: &mut Draft, random: &mut Random) {
     let wanted = random.pick(&[65, 65, 66, some]);
     while draft.recordings() < wanted {
         let id = random.bits() as u32;
-        draft.add(id, random.below(3) as u8, shapes::small(random));
+        draft.add(id, random.below(2) as u8, shapes::small(random));
     }
 }

@@ -5,7 +5,8 @@ use std::cmp::Ordering;
 use super::at_once::{between, broken_off, odd_one, LENGTHS, LISTS};
 use super::calls::{Call, NEAR};
 use super::coverage::{Coverage, AT_ROOM};
-use super::events::{is_empty, Event, AT_END, AT_ENTRY, AT_SUM, AT_TRIANGLE, RECORDINGS, ROOMS, WRITTEN};
+use super::events::{is_empty, Event, AT_END, AT_ENTRY, AT_SUM, AT_TRIANGLE, HELD_BACK_ORDERS};
+use super::events::{RECORDINGS, ROOMS, WRITTEN};
 use super::faults::STAGES;
 use super::CLASSES;
 use crate::files::coverage::Of;
@@ -48,6 +49,7 @@ impl Default for Tally {
         }
         tally.add_events("refusal", &AT_END);
         tally.add_orders();
+        tally.add_events("order", &HELD_BACK_ORDERS);
         tally.add_calls();
         tally
     }

@@ -3,7 +3,7 @@
 use super::draft::Draft;
 use super::orders;
 use crate::files::draft::Triangle;
-use crate::files::worked::{numbered, EXAMPLE, SHORTEST, THREE};
+use crate::files::worked::{changed, numbered_of, EXAMPLE, SHORTEST, THREE};
 use crate::writer::NUMBERS;
 
 pub struct Worked {
@@ -33,13 +33,13 @@ pub fn example() -> Draft {
     }
 }
 
-/// One recording of each set, of one, two and one triangles.
+/// Two training recordings and a test, of one, two and one triangles.
 #[rustfmt::skip]
 pub fn three() -> Draft {
     Draft {
         ids: vec![0, 4_294_967_295, 5],
         counts: vec![1, 2, 1],
-        sets: vec![2, 0, 1],
+        sets: vec![0, 0, 1],
         numbers: vec![
             0, 0, 0, 4, 4, 0,
             1_000_000, 1_000_000, -1_000_000, 1_000_000, 1_000_000, -1_000_000,
@@ -49,10 +49,15 @@ pub fn three() -> Draft {
     }
 }
 
-/// This many recordings with a triangle each.
+/// What is written from it: the first recording of `THREE`, which is held back there, is training.
+pub fn file_of_three() -> Vec<u8> {
+    changed(&THREE, 106, 0)
+}
+
+/// This many recordings with a triangle each, by turns training and test.
 pub fn recordings(count: u8) -> Draft {
     let mut draft = Draft::default();
-    (0..count).for_each(|k| draft.add(u32::from(k), k % 3, V));
+    (0..count).for_each(|k| draft.add(u32::from(k), k % 2, V));
     draft
 }
 
@@ -81,15 +86,19 @@ fn written() -> Vec<Worked> {
     let mut uneven = example();
     uneven.counts = vec![2, 1];
     uneven.numbers.extend(V);
-    let mut held_back = example();
-    held_back.sets = vec![2, 2];
+    let of_sets = |sets: [u8; 2]| {
+        let draft = Draft { sets: sets.to_vec(), ..example() };
+        good(draft, &[&EXAMPLE[..58], &sets[..1], &EXAMPLE[59..70], &sets[1..], &EXAMPLE[71..]].concat())
+    };
     vec![
         good(Draft::default(), &SHORTEST),
         good(example(), &EXAMPLE),
-        good(three(), &THREE),
-        good(recordings(64), &numbered(64)),
+        good(three(), &file_of_three()),
+        good(recordings(64), &numbered_of(64, 2)),
         good(uneven, &UNEVEN),
-        good(held_back, &[&EXAMPLE[..58], &[2], &EXAMPLE[59..70], &[2], &EXAMPLE[71..]].concat()),
+        of_sets([1, 0]),
+        of_sets([0, 0]),
+        of_sets([1, 1]),
     ]
 }
 
@@ -147,10 +156,16 @@ fn at_an_entry() -> Vec<Worked> {
         refused(16, Draft { ids: vec![5, 4_294_967_295, 4_294_967_295], ..three() }),
         refused(16, Draft { ids: vec![1, 1, 1], ..three() }),
     ];
-    for set in [3, 4, 127, 128, 129, 130, 255] {
+    for set in [2, 3, 4, 127, 128, 129, 130, 255] {
         all.push(spoiled(14, |d| d.sets[0] = set));
         all.push(spoiled(14, |d| d.sets[1] = set));
     }
+    all.push(spoiled(14, |d| d.sets = vec![2, 2]));
+    all.extend((0..3).map(|entry| {
+        let mut draft = three();
+        draft.sets[entry] = 2;
+        refused(14, draft)
+    }));
     all
 }
 

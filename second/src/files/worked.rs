@@ -58,14 +58,19 @@ fn good() -> Vec<Worked> {
     ]
 }
 
-/// This many recordings with a triangle each; good up to 64.
+/// This many recordings with a triangle each, of all sets by turns; good up to 64.
 pub fn numbered(recordings: u8) -> Vec<u8> {
+    numbered_of(recordings, 3)
+}
+
+/// The same of so many sets.
+pub fn numbered_of(recordings: u8, sets: u8) -> Vec<u8> {
     let mut file = EXAMPLE[..24].repeat(usize::from(recordings));
     let table = file.len() as u32;
     for k in 0..recordings {
         file.extend([k, 0, 0, 0]);
         file.extend((24 * u32::from(k)).to_le_bytes());
-        file.extend([1, 0, k % 3, 0]);
+        file.extend([1, 0, k % sets, 0]);
     }
     let length = file.len() as u32 + 12;
     file.extend([table, u32::from(recordings), length].map(u32::to_le_bytes).concat());

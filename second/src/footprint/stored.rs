@@ -7,7 +7,8 @@ pub const TRIANGLE: usize = 24;
 pub const ENTRY: usize = 12;
 pub const TRAILER: usize = 12;
 
-/// The sets that a recording can be of.
+/// The sets that a recording can be stored with. The last is retired: old files have it, and nobody writes it
+/// any more.
 pub const TRAINING: u8 = 0;
 pub const TEST: u8 = 1;
 pub const HELD_BACK: u8 = 2;
@@ -47,7 +48,7 @@ impl Line {
     pub fn faults(&self, end: u64) -> impl Iterator<Item = Reason> {
         let tests = [
             (self.count == 0, Reason::NoTriangles),
-            (self.set > 2, Reason::Set),
+            (self.set > HELD_BACK, Reason::Set),
             (self.last != 0, Reason::LastByte),
             (u64::from(self.first) != end, Reason::First),
         ];

@@ -3,9 +3,10 @@
 use super::{leaks, Counts, List};
 use crate::boxes::near_pairs;
 use crate::decision::by_the_triangle_rules;
-use crate::files::worked::{all as all_files, EXAMPLE};
-use crate::footprint::stored::{TEST, TRAINING};
-use crate::lists::worked::{all, file_of, EXAMPLE_LIST, U_OF_D, V};
+use crate::files::draft::Triangle;
+use crate::files::worked::{all as all_files, EXAMPLE, SHORTEST};
+use crate::footprint::stored::{HELD_BACK, TEST, TRAINING};
+use crate::lists::worked::{all, file_of, EXAMPLE_LIST, NOTHING, U_OF_D, V};
 
 /// What the room has in every byte before the call.
 const UNTOUCHED: u8 = b'~';
@@ -18,10 +19,16 @@ fn expect_list(file: &[u8], list: &str, tested: u32, room_length: usize) {
     if written == 0 {
         assert_eq!(answer, List { number: 7, ..List::default() });
     } else {
-        let leaks = list.lines().count() as u32 - 2;
-        let touching = list.lines().last().and_then(|line| line.strip_prefix("touching ")?.parse().ok());
-        let touching = touching.expect("the last line says how many touch");
-        assert_eq!(answer, List { number: 0, place: 0, length: list.len(), leaks, touching, tested });
+        let mut closing = list.lines().rev();
+        let mut number_behind = |words: &str| {
+            let number = closing.next().and_then(|line| line.strip_prefix(words)?.parse().ok());
+            number.expect("the closing lines end in numbers")
+        };
+        let formerly_held_back = number_behind("formerly held back ");
+        let touching = number_behind("touching ");
+        let leaks = closing.count() as u32 - 1;
+        let (number, place, length) = (0, 0, list.len());
+        assert_eq!(answer, List { number, place, length, leaks, touching, tested, formerly_held_back });
     }
     assert_eq!(String::from_utf8_lossy(&room[..written]), &list[..written]);
     assert!(room[written..].iter().all(|byte| *byte == UNTOUCHED));
@@ -31,7 +38,10 @@ fn expect_list(file: &[u8], list: &str, tested: u32, room_length: usize) {
 fn lists() {
     for worked in all() {
         let length = worked.list.len();
-        for room_length in [0, 1, 8, 18, 19, 20, length - 11, length - 1, length, length + 1, length + 100] {
+        for room_length in [0, 1, 8, 19, 39, 40, 41] {
+            expect_list(&worked.file, &worked.list, worked.tested, room_length);
+        }
+        for room_length in [length - 21, length - 2, length - 1, length, length + 1, length + 100] {
             expect_list(&worked.file, &worked.list, worked.tested, room_length);
         }
     }
@@ -40,15 +50,30 @@ fn lists() {
 #[test]
 fn every_room_for_the_example() {
     assert_eq!(file_of(&[(7, TRAINING, &[V]), (9, TEST, &[U_OF_D])]), EXAMPLE);
-    assert_eq!(EXAMPLE_LIST.len(), 42);
-    (0..50).for_each(|length| expect_list(&EXAMPLE, EXAMPLE_LIST, 1, length));
+    assert_eq!(EXAMPLE_LIST.len(), 63);
+    (0..70).for_each(|length| expect_list(&EXAMPLE, EXAMPLE_LIST, 1, length));
+}
+
+/// Where nothing overlaps or touches and no recording is held back.
+#[test]
+fn the_shortest_list() {
+    assert_eq!(NOTHING.len(), 40);
+    (0..50).for_each(|length| expect_list(&SHORTEST, NOTHING, 0, length));
 }
 
 /// As many lines as there can be, each with two ids of ten digits.
 #[test]
 fn all_lines() {
-    let recording = |k: u32| (u32::MAX - k, if k % 2 == 0 { TEST } else { TRAINING }, &[V][..]);
-    let file = file_of(&(0..64).map(recording).collect::<Vec<_>>());
+    all_lines_of(&[TRAINING], 0);
+    all_lines_of(&[HELD_BACK], 32);
+    all_lines_of(&[TRAINING, HELD_BACK], 16);
+    all_lines_of(&[HELD_BACK, TRAINING, TRAINING], 11);
+}
+
+/// What is training by turns is of these sets in turn.
+fn all_lines_of(sets: &[u8], held_back: usize) {
+    let set = |k: usize| if k % 2 == 0 { TEST } else { sets[k / 2 % sets.len()] };
+    let file = file_of(&(0..64).map(|k| (u32::MAX - k as u32, set(k), &[V][..])).collect::<Vec<_>>());
     let mut list = "leaks 1024\n".to_string();
     for test in 0..32 {
         for training in 0..32 {
@@ -56,16 +81,34 @@ fn all_lines() {
             list += &format!("test {} train {} pairs 1\n", ids[0], ids[1]);
         }
     }
-    list += "touching 0\n";
-    assert_eq!(list.len(), 11 + 1024 * 41 + 11);
+    list += &format!("touching 0\nformerly held back {held_back}\n");
+    assert_eq!(list.len(), 11 + 1024 * 41 + 11 + 20 + held_back.to_string().len());
     [list.len() - 1, list.len(), 65_536].iter().for_each(|length| expect_list(&file, &list, 1024, *length));
+}
+
+/// As many recordings as there can be, and no test or one among them.
+#[test]
+fn all_held_back() {
+    let mut recordings: Vec<(u32, u8, &[Triangle])> = (0..64).map(|id| (id, HELD_BACK, &[V][..])).collect();
+    let list = "leaks 0\ntouching 0\nformerly held back 64\n";
+    (0..60).for_each(|length| expect_list(&file_of(&recordings), list, 0, length));
+    for place in [0, 1, 31, 62, 63] {
+        recordings[place].1 = TEST;
+        let others = (0..64).filter(|id| *id != place);
+        let lines: String = others.map(|id| format!("test {place} train {id} pairs 1\n")).collect();
+        let list = format!("leaks 63\n{lines}touching 0\nformerly held back 63\n");
+        for length in [list.len() - 21, list.len() - 1, list.len(), 65_536] {
+            expect_list(&file_of(&recordings), &list, 63, length);
+        }
+        recordings[place].1 = HELD_BACK;
+    }
 }
 
 /// Whatever the room: it is not looked at, nor written to.
 #[test]
 fn a_refused_file_answers_for_itself() {
     for worked in all_files().iter().filter(|worked| worked.number != 0) {
-        for length in [0, 18, 19, 100] {
+        for length in [0, 39, 40, 100] {
             let mut room = vec![UNTOUCHED; length];
             let expected = List { number: worked.number, place: worked.place, ..List::default() };
             assert_eq!(leaks(&worked.file, &mut room), expected);

@@ -2,15 +2,17 @@
 //! what it has covered.
 
 pub mod boxes;
+pub mod held_back;
 
-use super::of_set;
+use super::{of_set, trainings};
 use crate::decision::{decide, decision_of, is_far, APART, OVERLAPPING, TOUCHING};
 use crate::exact::{common_to, contact_of, Common, Contact};
-use crate::footprint::stored::{triangle, Line, HELD_BACK, TEST, TRAINING, TRIANGLE};
+use crate::footprint::stored::{triangle, Line, TEST, TRIANGLE};
 use crate::footprint::{lines_of, Refused};
 use crate::leaks::{counts_of, Leak, Whole};
 use crate::triangles::{intersect, ROOM};
 use boxes::{twos_of, Two};
+use held_back::HeldBack;
 
 /// Of a file with more triangles nothing is said about pairs of them.
 const MOST_TRIANGLES: usize = 60;
@@ -60,23 +62,6 @@ pub struct Pairs {
     pub held_back: HeldBack,
 }
 
-/// What a recording held back would do if it were a test or a training one.
-#[derive(Default)]
-pub struct HeldBack {
-    pub leaks_as_test: bool,
-    pub leaks_as_training: bool,
-    pub touches_as_test: bool,
-    pub touches_as_training: bool,
-    pub tested_as_test: bool,
-    pub tested_as_training: bool,
-}
-
-impl HeldBack {
-    pub fn touches(&self) -> bool {
-        self.touches_as_test || self.touches_as_training
-    }
-}
-
 impl<'a> Coverage<'a> {
     pub fn of(file: &[u8], whole: &'a Result<Whole, Refused>) -> Self {
         let lines = lines_of(file).unwrap_or_default();
@@ -109,6 +94,11 @@ impl<'a> Coverage<'a> {
         self.whole.as_ref().map_or(0, |whole| whole.tested as usize)
     }
 
+    /// The last line's number.
+    pub fn held_back(&self) -> u32 {
+        self.whole.as_ref().map_or(0, |whole| whole.formerly_held_back)
+    }
+
     pub fn triangle_pairs(&self) -> usize {
         self.twos.iter().map(Two::pairs).sum()
     }
@@ -127,8 +117,14 @@ impl<'a> Coverage<'a> {
         self.text().len()
     }
 
+    /// Those that are stored with the set.
     pub fn recordings_of(&self, set: u8) -> usize {
         of_set(&self.lines, set).count()
+    }
+
+    /// Those that the list looks at beside the tests.
+    pub fn trainings(&self) -> usize {
+        trainings(&self.lines).count()
     }
 
     /// Which of the table's recordings has the id.
@@ -140,25 +136,11 @@ impl<'a> Coverage<'a> {
 impl Pairs {
     fn look_at(&mut self, file: &[u8], lines: &[Line]) {
         for test in of_set(lines, TEST) {
-            for training in of_set(lines, TRAINING) {
+            for training in trainings(lines) {
                 self.look_at_recordings(test.part(file), training.part(file));
             }
         }
-        for held_back in of_set(lines, HELD_BACK) {
-            let part = held_back.part(file);
-            for training in of_set(lines, TRAINING) {
-                let counts = counts_of(part, training.part(file));
-                self.held_back.tested_as_test |= counts.tested > 0;
-                self.held_back.leaks_as_test |= counts.leak();
-                self.held_back.touches_as_test |= counts.only_touch();
-            }
-            for test in of_set(lines, TEST) {
-                let counts = counts_of(test.part(file), part);
-                self.held_back.tested_as_training |= counts.tested > 0;
-                self.held_back.leaks_as_training |= counts.leak();
-                self.held_back.touches_as_training |= counts.only_touch();
-            }
-        }
+        self.held_back = HeldBack::among(file, lines);
     }
 
     fn look_at_recordings(&mut self, test: &[u8], training: &[u8]) {

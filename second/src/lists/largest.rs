@@ -24,10 +24,15 @@ pub fn all() -> Vec<Large> {
         one_pair_of_recordings(),
         all_near_and_apart(),
         none_near(),
-        all_lines(),
-        all_touching(),
-        lines_and_touching(),
-        nothing("64 recordings held back", held_back()),
+        all_lines("32 x 32 recordings that all overlap", |_| TRAINING),
+        all_lines("32 x 32 recordings that all overlap, by turns held back", BY_TURNS),
+        all_lines("32 x 32 recordings that all overlap, all but tests held back", |_| HELD_BACK),
+        all_touching("32 x 32 recordings that all touch", |_| TRAINING),
+        all_touching("32 x 32 recordings that all touch, by turns held back", BY_TURNS),
+        lines_and_touching("32 x 32 recordings of which some overlap and the others touch", |_| TRAINING),
+        lines_and_touching("32 x 32 recordings of which some overlap, by turns held back", BY_TURNS),
+        all_held_back(),
+        all_but_one_held_back(),
         nothing("2,729 triangles of one test recording", of_one(TEST)),
         nothing("2,729 triangles of one training recording", of_one(TRAINING)),
     ]
@@ -51,7 +56,8 @@ fn one_pair_of_recordings() -> Large {
     Large {
         name: "1,364 x 1,365 triangles that all overlap",
         file: Draft::of(&ids, &counts, &[TRAINING, TEST], triangles).bytes(),
-        list: "leaks 1\ntest 4294967294 train 4294967295 pairs 1861860\ntouching 0\n".to_string(),
+        list: "leaks 1\ntest 4294967294 train 4294967295 pairs 1861860\ntouching 0\nformerly held back 0\n"
+            .to_string(),
         tested: ALL_PAIRS,
         slow: true,
     }
@@ -104,12 +110,19 @@ fn training_id(k: usize) -> u32 {
     u32::MAX - 1_000_000 * (k as u32 + 1)
 }
 
-/// 32 test and 32 training recordings by turns.
-fn by_turns(tests: impl Fn(usize) -> Part, trainings: impl Fn(usize) -> Part) -> Vec<u8> {
+/// The set of each training recording, by its number among them.
+type Sets = fn(usize) -> u8;
+
+/// Two of each.
+const BY_TURNS: Sets = |k| if k % 4 < 2 { TRAINING } else { HELD_BACK };
+
+/// 32 test and 32 training recordings by turns, and the latter of these sets.
+fn by_turns(tests: impl Fn(usize) -> Part, trainings: impl Fn(usize) -> Part, sets: Sets) -> Vec<u8> {
+    let sets: Vec<u8> = (0..32).flat_map(|k| [TEST, sets(k)]).collect();
     let parts: Vec<Part> = (0..32).flat_map(|k| [tests(k), trainings(k)]).collect();
     let ids: Vec<u32> = (0..32).flat_map(|k| [test_id(k), training_id(k)]).collect();
     let counts: Vec<u16> = parts.iter().map(|part| part.len() as u16).collect();
-    Draft::of(&ids, &counts, &[TEST, TRAINING].repeat(32), parts.concat()).bytes()
+    Draft::of(&ids, &counts, &sets, parts.concat()).bytes()
 }
 
 /// Of such a file, from how many triangles each of its recordings has.
@@ -118,7 +131,7 @@ fn triangle_pairs(of_test: fn(usize) -> usize, of_training: fn(usize) -> usize) 
 }
 
 /// The list of such a file, from the number of overlapping pairs of every two recordings.
-fn list_of(pairs: impl Fn(usize, usize) -> usize, touching: usize) -> String {
+fn list_of(pairs: impl Fn(usize, usize) -> usize, touching: usize, sets: Sets) -> String {
     let (mut count, mut lines) = (0, String::new());
     for test in 0..32 {
         for training in (0..32).filter(|training| pairs(test, *training) > 0) {
@@ -127,16 +140,17 @@ fn list_of(pairs: impl Fn(usize, usize) -> usize, touching: usize) -> String {
             count += 1;
         }
     }
-    format!("leaks {count}\n{lines}touching {touching}\n")
+    let held_back = (0..32).filter(|k| sets(*k) == HELD_BACK).count();
+    format!("leaks {count}\n{lines}touching {touching}\nformerly held back {held_back}\n")
 }
 
 /// Every test recording with every training one; N from 100 to 132.
-fn all_lines() -> Large {
+fn all_lines(name: &'static str, sets: Sets) -> Large {
     let (of_test, of_training) = (|k: usize| 10 + k % 3, |k: usize| 10 + k % 2);
     Large {
-        name: "32 x 32 recordings that all overlap",
-        file: by_turns(|k| inner(of_test(k)), |k| outer(of_training(k))),
-        list: list_of(|test, training| of_test(test) * of_training(training), 0),
+        name,
+        file: by_turns(|k| inner(of_test(k)), |k| outer(of_training(k)), sets),
+        list: list_of(|test, training| of_test(test) * of_training(training), 0, sets),
         tested: triangle_pairs(of_test, of_training),
         slow: false,
     }
@@ -152,13 +166,13 @@ fn beside_the_axis(side: i32, k: usize) -> Triangle {
 }
 
 /// Every test recording with every training one, in one to six triangle pairs.
-fn all_touching() -> Large {
+fn all_touching(name: &'static str, sets: Sets) -> Large {
     let part = |side: i32, k: usize, count: usize| (k..k + count).map(|k| beside_the_axis(side, k)).collect();
     let (of_test, of_training) = (|k: usize| 1 + k % 2, |k: usize| 1 + k % 3);
     Large {
-        name: "32 x 32 recordings that all touch",
-        file: by_turns(|k| part(1, k, of_test(k)), |k| part(-1, k, of_training(k))),
-        list: "leaks 0\ntouching 1024\n".to_string(),
+        name,
+        file: by_turns(|k| part(1, k, of_test(k)), |k| part(-1, k, of_training(k)), sets),
+        list: list_of(|_, _| 0, 32 * 32, sets),
         tested: triangle_pairs(of_test, of_training),
         slow: false,
     }
@@ -166,7 +180,7 @@ fn all_touching() -> Large {
 
 /// The same, and far from the axis every other test recording has a triangle within one of every third
 /// training recording, at its beginning or at its end.
-fn lines_and_touching() -> Large {
+fn lines_and_touching(name: &'static str, sets: Sets) -> Large {
     let far = |triangle: Triangle| triangle.map(|value| value + 50_000);
     let with = |more: bool, triangle: Triangle, part: Triangle, k: usize| match (more, k % 4 < 2) {
         (false, _) => vec![part],
@@ -178,11 +192,12 @@ fn lines_and_touching() -> Large {
     let trainings = |k: usize| with(of_training(k), far(outer(1)[0]), beside_the_axis(-1, k), k);
     let overlapping = 16 * 11;
     Large {
-        name: "32 x 32 recordings of which some overlap and the others touch",
-        file: by_turns(tests, trainings),
+        name,
+        file: by_turns(tests, trainings, sets),
         list: list_of(
             |test, training| usize::from(of_test(test) && of_training(training)),
             32 * 32 - overlapping,
+            sets,
         ),
         // All beside the axis with one another, and all far from it with one another.
         tested: 32 * 32 + overlapping as u32,
@@ -190,13 +205,41 @@ fn lines_and_touching() -> Large {
     }
 }
 
-/// As many triangles as fit, all of which would overlap.
-fn held_back() -> Vec<u8> {
+/// As many triangles as fit, all of which overlap: the last recording has what is left, the others have 42
+/// each.
+fn of_64(sets: &[u8; 64]) -> Vec<u8> {
     let ids: Vec<u32> = (0..64).collect();
     let mut counts = [42; 64];
     counts[63] += most_triangles(64) as u16 - 64 * 42;
     let triangles = outer(most_triangles(64));
-    Draft::of(&ids, &counts, &[HELD_BACK; 64], triangles).bytes()
+    Draft::of(&ids, &counts, sets, triangles).bytes()
+}
+
+fn all_held_back() -> Large {
+    Large {
+        name: "64 recordings held back",
+        file: of_64(&[HELD_BACK; 64]),
+        list: "leaks 0\ntouching 0\nformerly held back 64\n".to_string(),
+        tested: 0,
+        slow: false,
+    }
+}
+
+/// The test is in the middle, and has a line with each of the others.
+fn all_but_one_held_back() -> Large {
+    let mut sets = [HELD_BACK; 64];
+    sets[40] = TEST;
+    let of_last = most_triangles(64) - 63 * 42;
+    let pairs = |id: usize| 42 * if id == 63 { of_last } else { 42 };
+    let others = || (0..64).filter(|id| *id != 40);
+    let lines: String = others().map(|id| format!("test 40 train {id} pairs {}\n", pairs(id))).collect();
+    Large {
+        name: "63 recordings held back and a test",
+        file: of_64(&sets),
+        list: format!("leaks 63\n{lines}touching 0\nformerly held back 63\n"),
+        tested: others().map(pairs).sum::<usize>() as u32,
+        slow: false,
+    }
 }
 
 #[cfg(test)]

@@ -100,7 +100,7 @@ fn of_pairs(pairs: &[[Triangle; 2]], random: &mut Random) -> Vec<u8> {
 }
 
 /// Corners on a few lattice points: shared corners and edges come by themselves.
-fn on_grid(random: &mut Random, recordings: usize, most: usize) -> Vec<Part> {
+pub fn on_grid(random: &mut Random, recordings: usize, most: usize) -> Vec<Part> {
     let side = random.between(2, 7);
     let mut parts: Vec<Part> = Vec::new();
     for _ in 0..recordings {

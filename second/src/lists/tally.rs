@@ -2,6 +2,7 @@
 
 use super::coverage::Coverage;
 use super::events::boxes::{alone_at, of_so_many, COUNTS, OWN_BOXES, PLACES, SIDES, TESTED, TRIANGLE_BOXES};
+use super::events::held_back::HELD_BACK_ONES;
 use super::events::{has_id, Event, LISTS, RECORDINGS, ROOMS, TRIANGLES};
 use super::rooms::Room;
 use super::CLASSES;
@@ -31,6 +32,7 @@ impl Default for Tally {
             let name = format!("id of {digits} digits in a line");
             tally.add_test("recordings", name, move |c| has_id(c, least, most as u32));
         }
+        tally.add_events("held back ones", &HELD_BACK_ONES);
         tally.add_events("triangles", &TRIANGLES);
         tally.add_events("tested", &TESTED);
         tally.add_events("recordings' own boxes", &OWN_BOXES);

@@ -2,6 +2,7 @@
 //! given to the triangle rules.
 
 mod boxes;
+mod held_back;
 
 use crate::files::draft::{Draft, Triangle};
 use crate::files::worked::{EXAMPLE, SHORTEST, THREE};
@@ -14,10 +15,14 @@ pub struct Worked {
 }
 
 /// The whole list of `EXAMPLE`.
-pub const EXAMPLE_LIST: &str = "leaks 1\ntest 9 train 7 pairs 1\ntouching 0\n";
+pub const EXAMPLE_LIST: &str = "leaks 1\ntest 9 train 7 pairs 1\ntouching 0\nformerly held back 0\n";
 /// Where nothing overlaps or touches, and where two recordings touch.
-pub const NOTHING: &str = "leaks 0\ntouching 0\n";
-const ONE_TOUCHES: &str = "leaks 0\ntouching 1\n";
+pub const NOTHING: &str = "leaks 0\ntouching 0\nformerly held back 0\n";
+const ONE_TOUCHES: &str = "leaks 0\ntouching 1\nformerly held back 0\n";
+/// The same, and one recording is stored as held back.
+const ONE_LEAKS_OF_ONE: &str = "leaks 1\ntest 9 train 7 pairs 1\ntouching 0\nformerly held back 1\n";
+const NOTHING_OF_ONE: &str = "leaks 0\ntouching 0\nformerly held back 1\n";
+const ONE_TOUCHES_OF_ONE: &str = "leaks 0\ntouching 1\nformerly held back 1\n";
 
 /// V of most of the worked cases, and the U of some.
 pub const V: Triangle = [0, 0, 4, 0, 0, 4];
@@ -76,8 +81,8 @@ fn listed(list: &str, tested: u32, recordings: &[(u32, u8, &[Triangle])]) -> Wor
 
 /// None of them longer than 2,000 bytes, nor any of the lists longer than 1,000.
 pub fn all() -> Vec<Worked> {
-    let all = [nothing(), held_back(), in_order(), touching(), both_kinds(), decisions(), numbers()];
-    all.into_iter().flatten().chain(boxes::all()).collect()
+    let all = [nothing(), in_order(), touching(), both_kinds(), decisions(), numbers()];
+    all.into_iter().flatten().chain(held_back::all()).chain(boxes::all()).collect()
 }
 
 fn nothing() -> Vec<Worked> {
@@ -90,33 +95,11 @@ fn nothing() -> Vec<Worked> {
     ]
 }
 
-fn held_back() -> Vec<Worked> {
-    let all = [V, U_OF_A, U_OF_D];
-    vec![
-        listed(NOTHING, 0, &[(7, HELD_BACK, &[V]), (9, TEST, &[U_OF_D])]),
-        listed(NOTHING, 0, &[(7, TRAINING, &[V]), (9, HELD_BACK, &[U_OF_D])]),
-        listed(NOTHING, 0, &[(7, HELD_BACK, &[V]), (9, HELD_BACK, &[U_OF_D])]),
-        listed(NOTHING, 0, &[(7, HELD_BACK, &[V]), (9, TEST, &[U_OF_F])]),
-        listed(NOTHING, 0, &[(7, TRAINING, &[V]), (9, HELD_BACK, &[U_OF_F])]),
-        listed(
-            EXAMPLE_LIST,
-            1,
-            &[
-                (1, HELD_BACK, &all),
-                (7, TRAINING, &[V]),
-                (2, HELD_BACK, &all),
-                (9, TEST, &[U_OF_D]),
-                (3, HELD_BACK, &all),
-            ],
-        ),
-    ]
-}
-
 /// The table's order, not that of the ids; each test recording with all the training ones.
 fn in_order() -> Vec<Worked> {
     let two_by_two = "leaks 4\n\
         test 5 train 3 pairs 2\ntest 5 train 1 pairs 2\ntest 2 train 3 pairs 1\ntest 2 train 1 pairs 2\n\
-        touching 0\n";
+        touching 0\nformerly held back 0\n";
     vec![
         worked(EXAMPLE_LIST, 1, &EXAMPLE),
         listed(
@@ -130,7 +113,7 @@ fn in_order() -> Vec<Worked> {
             ],
         ),
         listed(
-            "leaks 2\ntest 5 train 3 pairs 2\ntest 2 train 8 pairs 1\ntouching 0\n",
+            "leaks 2\ntest 5 train 3 pairs 2\ntest 2 train 8 pairs 1\ntouching 0\nformerly held back 0\n",
             3,
             &[
                 (5, TEST, &[U_OF_A, U_OF_D]),
@@ -145,7 +128,7 @@ fn in_order() -> Vec<Worked> {
 
 /// Of the first test recording two triangles overlap, of the second one, and so on by turns.
 fn six_by_six() -> Worked {
-    let ids = |k: u32| [70 - 11 * k, 1_000 + k];
+    let ids = |k: u32| [70 - 11 * k, 100 + k];
     let tests: [&[Triangle]; 2] = [&[U_OF_A, U_OF_D], &[U_OF_E, U_OF_A]];
     let mut recordings: Vec<(u32, u8, &[Triangle])> = Vec::new();
     let mut list = "leaks 36\n".to_string();
@@ -156,7 +139,7 @@ fn six_by_six() -> Worked {
             list += &format!("test {} train {} pairs {}\n", ids(k)[0], ids(other)[1], 2 - k % 2);
         }
     }
-    list += "touching 0\n";
+    list += "touching 0\nformerly held back 0\n";
     listed(&list, 3 * 6 * 2 + 3 * 6, &recordings)
 }
 
@@ -173,7 +156,7 @@ fn touching() -> Vec<Worked> {
         listed(ONE_TOUCHES, 12, &[(7, TRAINING, &[V; 3]), (9, TEST, &neighbours)]),
         listed(ONE_TOUCHES, 2, &[(7, TRAINING, &[AROUND_E, V]), (9, TEST, &[PAST_THE_CORNER, U_OF_F])]),
         listed(
-            "leaks 0\ntouching 2\n",
+            "leaks 0\ntouching 2\nformerly held back 0\n",
             2,
             &[
                 (7, TRAINING, &[V]),
@@ -182,16 +165,16 @@ fn touching() -> Vec<Worked> {
                 (1, TEST, &[AT_THE_CORNER]),
             ],
         ),
-        four_by_three(),
+        four_by_four(),
     ]);
     all
 }
 
-/// A neighbour each with V three times; one of those is held back in between.
-fn four_by_three() -> Worked {
+/// A neighbour each with V in four recordings; one of those is stored as held back, in between.
+fn four_by_four() -> Worked {
     listed(
-        "leaks 0\ntouching 12\n",
-        5 * 4,
+        "leaks 0\ntouching 16\nformerly held back 1\n",
+        5 * 5,
         &[
             (1, TEST, &[U_OF_F]),
             (2, TRAINING, &[V]),
@@ -211,7 +194,7 @@ fn both_kinds() -> Vec<Worked> {
     vec![
         // One test recording overlaps a training recording and only touches two others.
         listed(
-            "leaks 1\ntest 9 train 7 pairs 1\ntouching 2\n",
+            "leaks 1\ntest 9 train 7 pairs 1\ntouching 2\nformerly held back 0\n",
             3,
             &[
                 (9, TEST, &[U_OF_D]),
@@ -224,7 +207,7 @@ fn both_kinds() -> Vec<Worked> {
         listed(EXAMPLE_LIST, 2, &[(7, TRAINING, &[V]), (9, TEST, &[U_OF_D, U_OF_F])]),
         listed(EXAMPLE_LIST, 3, &[(9, TEST, &[AT_THE_CORNER, U_OF_E, U_OF_F, U_OF_A]), (7, TRAINING, &[V])]),
         listed(
-            "leaks 2\ntest 9 train 7 pairs 1\ntest 3 train 8 pairs 1\ntouching 2\n",
+            "leaks 2\ntest 9 train 7 pairs 1\ntest 3 train 8 pairs 1\ntouching 2\nformerly held back 0\n",
             5,
             &[
                 (5, TEST, &[U_OF_F]),
@@ -252,21 +235,27 @@ fn decisions() -> Vec<Worked> {
 fn numbers() -> Vec<Worked> {
     vec![
         listed(
-            "leaks 1\ntest 4294967295 train 4294967294 pairs 1\ntouching 0\n",
+            "leaks 1\ntest 4294967295 train 4294967294 pairs 1\ntouching 0\nformerly held back 0\n",
             1,
             &[(u32::MAX, TEST, &[U_OF_A]), (u32::MAX - 1, TRAINING, &[V])],
         ),
         listed(
-            "leaks 1\ntest 0 train 1 pairs 12\ntouching 0\n",
+            "leaks 1\ntest 0 train 1 pairs 12\ntouching 0\nformerly held back 0\n",
             12,
             &[(1, TRAINING, &[V; 4]), (0, TEST, &[U_OF_D; 3])],
         ),
         listed(
-            "leaks 1\ntest 2147483648 train 2147483647 pairs 100\ntouching 0\n",
+            "leaks 1\ntest 2147483648 train 2147483647 pairs 100\ntouching 0\nformerly held back 0\n",
             100,
             &[(1 << 31, TEST, &[U_OF_A; 4]), ((1 << 31) - 1, TRAINING, &[V; 25])],
         ),
-        // A thin triangle along the diagonal, from corner to corner of the range.
-        worked("leaks 1\ntest 5 train 4294967295 pairs 2\ntouching 0\n", 2, &THREE),
+        // A thin triangle along the diagonal, from corner to corner of the range: from x = 0.5 to x = 2.25 it
+        // lies within recording 0, which is stored as held back, and it is 2.5e-7 high there.
+        worked(
+            "leaks 2\ntest 5 train 0 pairs 1\ntest 5 train 4294967295 pairs 2\ntouching 0\n\
+             formerly held back 1\n",
+            3,
+            &THREE,
+        ),
     ]
 }

@@ -2,7 +2,7 @@
 
 use super::{write, Written};
 use crate::drafts::draft::Draft;
-use crate::drafts::worked::{all, example, recordings, three, V};
+use crate::drafts::worked::{all, example, file_of_three, recordings, three, V};
 use crate::files::worked::{EXAMPLE, SHORTEST, THREE};
 use crate::footprint::{judge, part, recording, Entry, Verdict};
 
@@ -33,7 +33,10 @@ fn drafts() {
 
 #[test]
 fn rooms() {
-    for (draft, file) in [(Draft::default(), &SHORTEST[..]), (example(), &EXAMPLE), (three(), &THREE)] {
+    let three_written = file_of_three();
+    for (draft, file) in
+        [(Draft::default(), &SHORTEST[..]), (example(), &EXAMPLE), (three(), &three_written[..])]
+    {
         (0..file.len()).for_each(|length| expect(&draft, length, 19, &[]));
         (0..30).for_each(|more| expect(&draft, file.len() + more, 0, file));
         expect(&draft, 65_536, 0, file);
@@ -159,7 +162,11 @@ fn entries_beyond_the_64th() {
     expect(&spoiled(|d| d.ids[199] = 0), 10_000, 16, &[]);
     expect(&spoiled(|d| d.ids[199] = 100), 10_000, 16, &[]);
     expect(&spoiled(|d| d.ids[150] = 149), 10_000, 16, &[]);
+    expect(&spoiled(|d| d.sets[199] = 2), 10_000, 14, &[]);
     expect(&spoiled(|d| d.sets[199] = 3), 10_000, 14, &[]);
+    expect(&spoiled(|d| (d.ids[100], d.sets[100]) = (0, 2)), 10_000, 14, &[]);
+    expect(&spoiled(|d| (d.ids[100], d.sets[99]) = (0, 2)), 10_000, 14, &[]);
+    expect(&spoiled(|d| (d.ids[100], d.sets[101]) = (0, 2)), 10_000, 16, &[]);
     expect(&spoiled(|d| d.counts[64] = 0), 10_000, 14, &[]);
     expect(&spoiled(|d| (d.ids[100], d.counts[101]) = (0, 0)), 10_000, 16, &[]);
     expect(&spoiled(|d| (d.ids[101], d.counts[100]) = (0, 0)), 10_000, 14, &[]);
@@ -174,10 +181,19 @@ fn sets() {
     for set in 0..=255 {
         let mut draft = example();
         draft.sets[1] = set;
-        if set > 2 {
+        if set > 1 {
             expect(&draft, 84, 14, &[]);
         } else {
             expect(&draft, 84, 0, &[&EXAMPLE[..70], &[set], &EXAMPLE[71..]].concat());
         }
     }
+}
+
+/// `THREE` is accepted, and its first recording is handed back with set 2: so it is not written again.
+#[test]
+fn an_old_file() {
+    let sets: Vec<u8> = (0..3).map(|k| recording(&THREE, k).set as u8).collect();
+    assert_eq!((judge(&THREE), &sets[..]), (Verdict::default(), &[2, 0, 1][..]));
+    let old = Draft { sets, ..three() };
+    [0, 143, 144, 65_536].into_iter().for_each(|length| expect(&old, length, 14, &[]));
 }

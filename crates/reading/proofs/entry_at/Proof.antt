@@ -42,28 +42,22 @@ byte-at-requires-2 c κs = search needs
 two-requires : tie.Need-two-requires
 two-requires c κs = search needs
 
-add-byte-at-3 : tie.Need-add-byte-at-3
-add-byte-at-3 c = search needs
+add-u8-at : tie.Need-add-u8-at
+add-u8-at c = search needs
 
-byte-at-requires-3 : tie.Need-byte-at-requires-3
-byte-at-requires-3 c κs = search needs
+u8-at-requires : tie.Need-u8-at-requires
+u8-at-requires c κs = search needs
 
-wide-requires : tie.Need-wide-requires
-wide-requires c κs = search needs
+add-u8-at-2 : tie.Need-add-u8-at-2
+add-u8-at-2 c = search needs
 
-add-byte-at-4 : tie.Need-add-byte-at-4
-add-byte-at-4 c = search needs
-
-byte-at-requires-4 : tie.Need-byte-at-requires-4
-byte-at-requires-4 c κs = search needs
-
-wide-requires-2 : tie.Need-wide-requires-2
-wide-requires-2 c κs = search needs
+u8-at-requires-2 : tie.Need-u8-at-requires-2
+u8-at-requires-2 c κs = search needs
 
 returns-2 : tie.Need-returns-2
-returns-2 c = let g = c .before .before .before .before .before .before .before .before .before .before .before .args in
-    let n = c .before .before .before .before .two .ensures in
-    (entry-read (now (g .bytes)) (g .at) (c .before .before .before .before .before .before .before .before .u32-at .ensures) (c .before .before .before .before .before .before .before .u32-at2 .ensures) (count-is (now (g .bytes)) (g .at) (c .before .before .before .before .before .before .byte-at .ensures) (c .before .before .before .before .before .byte-at2 .ensures) (n .0)) (c .before .before .wide .ensures ∙ c .before .before .before .byte-at3 .ensures) (c .wide2 .ensures ∙ c .before .byte-at4 .ensures), n .1)
+returns-2 c = let g = c .before .before .before .before .before .before .before .before .before .args in
+    let n = c .before .before .two .ensures in
+    (entry-read (now (g .bytes)) (g .at) (c .before .before .before .before .before .before .u32-at .ensures) (c .before .before .before .before .before .u32-at2 .ensures) (count-is (now (g .bytes)) (g .at) (c .before .before .before .before .byte-at .ensures) (c .before .before .before .byte-at2 .ensures) (n .0)) (c .before .u8-at .ensures) (c .u8-at2 .ensures), n .1)
 
 pub entry-at-spec : {M : Type 1} → statement M
 entry-at-spec =
@@ -78,10 +72,8 @@ entry-at-spec =
     add-byte-at-2
     byte-at-requires-2
     two-requires
-    add-byte-at-3
-    byte-at-requires-3
-    wide-requires
-    add-byte-at-4
-    byte-at-requires-4
-    wide-requires-2
+    add-u8-at
+    u8-at-requires
+    add-u8-at-2
+    u8-at-requires-2
     returns-2)

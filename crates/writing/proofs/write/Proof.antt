@@ -33,11 +33,11 @@ returns c = let b = c .before .before .before .before in
     let held = b .before .before in
     let g = held .before .before .before .before .before .args in
     let n = held-is (now (g .found)) (g .c .leaks) (held .before .lesser .ensures .0) (held .lesser2 .ensures .0) in
-    let put = put-as (ap (λ m. textOf (leaksIn (now (g .found)) m) (g .c .touching)) n) (b .put-list .ensures) in
-    written-not (leaksIn (now (g .found)) (heldIn (now (g .found)) (g .c .leaks))) (besideIn (g .c)) (now (g .room)) put (c .before .if1 .taken) (c .no-list .ensures)
+    let put = put-as (ap (λ m. textOf (leaksIn (now (g .found)) m) (g .c .touching) (g .formerly)) n) (b .put-list .ensures) in
+    written-not (leaksIn (now (g .found)) (heldIn (now (g .found)) (g .c .leaks))) (besideIn (g .c) (g .formerly)) (now (g .room)) put (c .before .if1 .taken) (c .no-list .ensures)
 
-cast-t13 : tie.Need-cast-t13
-cast-t13 c = search needs
+cast-t14 : tie.Need-cast-t14
+cast-t14 c = search needs
 
 same-length-2 : tie.Need-same-length-2
 same-length-2 c = search needs
@@ -47,8 +47,8 @@ returns-2 c = let b = c .before .before .before in
     let held = b .before .before in
     let g = held .before .before .before .before .before .args in
     let n = held-is (now (g .found)) (g .c .leaks) (held .before .lesser .ensures .0) (held .lesser2 .ensures .0) in
-    let put = put-as (ap (λ m. textOf (leaksIn (now (g .found)) m) (g .c .touching)) n) (b .put-list .ensures) in
-    written-all (leaksIn (now (g .found)) (heldIn (now (g .found)) (g .c .leaks))) (besideIn (g .c)) (now (g .room)) put (c .if1 .left) (n ∙ sym (how-many (now (g .found)) (heldIn (now (g .found)) (g .c .leaks))))
+    let put = put-as (ap (λ m. textOf (leaksIn (now (g .found)) m) (g .c .touching) (g .formerly)) n) (b .put-list .ensures) in
+    written-all (leaksIn (now (g .found)) (heldIn (now (g .found)) (g .c .leaks))) (besideIn (g .c) (g .formerly)) (now (g .room)) put (c .if1 .left) (n ∙ sym (how-many (now (g .found)) (heldIn (now (g .found)) (g .c .leaks))))
 
 pub write-spec : {M : Type 1} → statement M
 write-spec =
@@ -61,6 +61,6 @@ write-spec =
     no-list-requires
     same-length
     returns
-    cast-t13
+    cast-t14
     same-length-2
     returns-2)

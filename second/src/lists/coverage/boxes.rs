@@ -1,10 +1,10 @@
 //! A test and a training recording by the boxes around their triangles, and by their own, which are around
 //! all of these.
 
-use super::of_set;
+use super::{of_set, trainings};
 use crate::boxes::{boxes_of, Upright};
 use crate::coverage::boxes::Boxes;
-use crate::footprint::stored::{Line, TEST, TRAINING};
+use crate::footprint::stored::{Line, TEST};
 use crate::leaks::{counts_of, Counts};
 
 pub struct Two {
@@ -13,6 +13,8 @@ pub struct Two {
     /// Which triangles have boxes that share a point, test and training, in the list's order.
     pub near: Vec<[usize; 2]>,
     pub counts: Counts,
+    /// What the training recording is stored with.
+    pub set: u8,
 }
 
 pub struct Outline {
@@ -21,9 +23,9 @@ pub struct Outline {
 }
 
 /// All of them, in the list's order.
-pub fn twos_of(file: &[u8], lines: &[Line]) -> Vec<Two> {
-    let of = |set: u8| of_set(lines, set).map(|line| line.part(file));
-    of(TEST).flat_map(|test| of(TRAINING).map(move |training| Two::of(test, training))).collect()
+pub fn twos_of<'a>(file: &'a [u8], lines: &'a [Line]) -> Vec<Two> {
+    let with = |test: &'a Line| trainings(lines).map(move |training| Two::of(file, test, training));
+    of_set(lines, TEST).flat_map(with).collect()
 }
 
 impl Outline {
@@ -41,7 +43,8 @@ impl Outline {
 }
 
 impl Two {
-    fn of(test: &[u8], training: &[u8]) -> Two {
+    fn of(file: &[u8], test: &Line, training: &Line) -> Two {
+        let (set, test, training) = (training.set, test.part(file), training.part(file));
         let counts = counts_of(test, training);
         let (test, training) = (Outline::of(test), Outline::of(training));
         let mut near = Vec::new();
@@ -50,7 +53,7 @@ impl Two {
                 (0..training.triangles.len()).filter(|j| u.meets(&training.triangles[*j])).map(|j| [i, j]),
             );
         }
-        Two { test, training, near, counts }
+        Two { test, training, near, counts, set }
     }
 
     pub fn own(&self) -> Boxes {

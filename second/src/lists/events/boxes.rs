@@ -2,11 +2,11 @@
 
 use super::Event;
 use crate::coverage::boxes::{Boxes, Side, ABOVE, BELOW, LEFT, RIGHT};
-use crate::footprint::stored::{TEST, TRAINING};
+use crate::footprint::stored::TEST;
 use crate::lists::coverage::boxes::Two;
 use crate::lists::coverage::Coverage;
 
-pub const TESTED: [Event; 16] = [
+pub const TESTED: [Event; 14] = [
     ("0 of some pairs", |c| c.tested() == 0 && c.triangle_pairs() > 0),
     ("1", |c| c.tested() == 1),
     ("2 to 9", |c| (2..10).contains(&c.tested())),
@@ -20,7 +20,7 @@ pub const TESTED: [Event; 16] = [
     }),
     ("of several pairs of recordings", |c| with_near(c) > 1),
     ("of all of two tests and two trainings or more", |c| {
-        let (tests, trainings) = (c.recordings_of(TEST), c.recordings_of(TRAINING));
+        let (tests, trainings) = (c.recordings_of(TEST), c.trainings());
         tests > 1 && trainings > 1 && with_near(c) == tests * trainings
     }),
     ("behind an overlapping pair of the same recordings", |c| c.pairs.tested_behind),
@@ -28,8 +28,6 @@ pub const TESTED: [Event; 16] = [
     ("of recordings that are apart", |c| {
         c.any(|two| !two.near.is_empty() && !two.counts.leak() && !two.counts.only_touch())
     }),
-    ("held back that would be tested as test", |c| c.pairs.held_back.tested_as_test),
-    ("held back that would be tested as training", |c| c.pairs.held_back.tested_as_training),
 ];
 
 /// Of a test and a training recording, each around all its triangles.

@@ -1,7 +1,7 @@
 //! Which triangle pairs have boxes that share a point. `V` has the box from (0,0) to (4,4).
 
 use super::{listed, Worked};
-use super::{AROUND_E, AT_THE_CORNER, EXAMPLE_LIST, NOTHING, ONE_TOUCHES, U_OF_A, U_OF_E, V};
+use super::{AROUND_E, AT_THE_CORNER, EXAMPLE_LIST, NOTHING, NOTHING_OF_ONE, ONE_TOUCHES, U_OF_A, U_OF_E, V};
 use crate::classes::decisions::{BEYOND, NEEDLES};
 use crate::files::draft::Triangle;
 use crate::footprint::stored::{HELD_BACK, TEST, TRAINING};
@@ -76,21 +76,32 @@ fn own_boxes() -> Vec<Worked> {
         // the first in common with them.
         two(ONE_TOUCHES, 3, &around, &[[8, 8, 6, 6, 7, 6]]),
         // All within one.
-        two("leaks 1\ntest 9 train 7 pairs 5\ntouching 0\n", 5, &bent(0), &[[-20, -20, 80, -20, -20, 80]]),
+        two(
+            "leaks 1\ntest 9 train 7 pairs 5\ntouching 0\nformerly held back 0\n",
+            5,
+            &bent(0),
+            &[[-20, -20, 80, -20, -20, 80]],
+        ),
     ]
 }
 
-/// All pairs count: after an overlapping one, of recordings that leak, touch or are apart; held back ones do
-/// not.
+/// All pairs count: after an overlapping one, of recordings that leak, touch or are apart, and of those that
+/// were held back.
 fn sums() -> Vec<Worked> {
     vec![
         two(EXAMPLE_LIST, 3, &[U_OF_A, ON_THE_RIGHT, ABOVE], &[V]),
         two(EXAMPLE_LIST, 2, &[UPPER_RIGHT, U_OF_A], &[V]),
-        two("leaks 1\ntest 9 train 7 pairs 3\ntouching 0\n", 3, &[U_OF_A, U_OF_E], &[V, AROUND_E, V]),
-        // 1 with 3, 1 with 4, 2 with 3 and 2 with 4: 2, 1, 1 and 0.
+        two(
+            "leaks 1\ntest 9 train 7 pairs 3\ntouching 0\nformerly held back 0\n",
+            3,
+            &[U_OF_A, U_OF_E],
+            &[V, AROUND_E, V],
+        ),
+        // 1 with 3, 5 and 4: 2, 4 and 1; then 2 with them: 1, 1 and 0.
         listed(
-            "leaks 2\ntest 1 train 3 pairs 1\ntest 1 train 4 pairs 1\ntouching 0\n",
-            4,
+            "leaks 3\ntest 1 train 3 pairs 1\ntest 1 train 5 pairs 2\ntest 1 train 4 pairs 1\ntouching 0\n\
+             formerly held back 1\n",
+            9,
             &[
                 (1, TEST, &[V, ON_THE_RIGHT]),
                 (3, TRAINING, &[V]),
@@ -99,8 +110,12 @@ fn sums() -> Vec<Worked> {
                 (4, TRAINING, &[U_OF_A, AROUND_E]),
             ],
         ),
-        listed(NOTHING, 0, &[(5, HELD_BACK, &[V]), (9, TEST, &[ON_THE_RIGHT]), (7, TRAINING, &[U_OF_E])]),
-        listed(NOTHING, 1, &[(7, TRAINING, &[V]), (5, HELD_BACK, &[V, U_OF_A]), (9, TEST, &[ABOVE])]),
+        listed(
+            NOTHING_OF_ONE,
+            1,
+            &[(5, HELD_BACK, &[V]), (9, TEST, &[ON_THE_RIGHT]), (7, TRAINING, &[U_OF_E])],
+        ),
+        listed(NOTHING_OF_ONE, 2, &[(7, TRAINING, &[V]), (5, HELD_BACK, &[V, U_OF_A]), (9, TEST, &[ABOVE])]),
     ]
 }
 

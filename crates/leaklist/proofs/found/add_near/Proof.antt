@@ -1,5 +1,4 @@
 -- Only with a training recording is anything found, and what is found is by what is counted.
-use Prim.Native.Nat.{_-_}
 use denote.Ref.{now}
 use mathlib.Core.Path.{refl, ap, _∙_}
 use native.Mathlib.Omega.{arith}
@@ -19,10 +18,8 @@ add-entry-at c = search needs
 entry-at-requires : tie.Need-entry-at-requires
 entry-at-requires c κs = search needs
 
-returns : tie.Need-returns
-returns c = let g = c .before .before .before .before .before .before .before .before .args in
-    let p = c .before .before .before .before .before .before .before .before .pre in
-    (with-nothing (foundIn (now (g .found)) (g .c)) (no-item (now (g .file)) (g .i) (g .j) (entry-is (now (g .file)) (g .j) (g .at) (p .3) (c .before .before .entry-at .ensures .0)) (c .if1 .taken)), omega arith, omega arith)
+is-training-requires : tie.Need-is-training-requires
+is-training-requires c κs = search needs
 
 cast-tally : tie.Need-cast-tally
 cast-tally c = search needs
@@ -54,7 +51,7 @@ add-tested : tie.Need-add-tested
 add-tested c = let g = c .before .before .before .before .before .before .before .before .before .before .before .before .before .before .before .before .before .before .args in
     let p = c .before .before .before .before .before .before .before .before .before .before .before .before .before .before .before .before .before .before .pre in
     let f = entry-is (now (g .file)) (g .j) (g .at) (p .3) (c .before .before .before .before .before .before .before .before .before .before .before .before .entry-at .ensures .0) in
-    let t = item-tested (now (g .file)) (g .i) (g .j) f (c .before .before .before .before .before .before .before .before .before .before .if1 .left) (count-by (now (g .file)) (now (g .table)) (now (g .bounds)) (now (g .own)) (p .0) (g .i) (g .j) (p .1) (p .4) (p .2) f (c .before .before .before .before .before .tally .ensures)) in
+    let t = item-tested (now (g .file)) (g .i) (g .j) f (c .before .before .before .before .before .before .before .before .before .before .before .is-training .ensures) (c .before .before .before .before .before .before .before .before .before .before .if1 .taken) (count-by (now (g .file)) (now (g .table)) (now (g .bounds)) (now (g .own)) (p .0) (g .i) (g .j) (p .1) (p .4) (p .2) f (c .before .before .before .before .before .tally .ensures)) in
     omega (arith, t, p .7)
 
 add-requires : tie.Need-add-requires
@@ -63,17 +60,22 @@ add-requires c κs = (c .before .before .before .before .before .before .before 
 same-length : tie.Need-same-length
 same-length c = search needs
 
-returns-2 : tie.Need-returns-2
-returns-2 c = let g = c .before .before .before .before .before .before .before .before .before .before .before .before .before .before .before .before .before .before .before .before .before .before .args in
+returns : tie.Need-returns
+returns c = let g = c .before .before .before .before .before .before .before .before .before .before .before .before .before .before .before .before .before .before .before .before .before .before .args in
     let p = c .before .before .before .before .before .before .before .before .before .before .before .before .before .before .before .before .before .before .before .before .before .before .pre in
     let added = c .before .before .add .ensures in
     let f = entry-is (now (g .file)) (g .j) (g .at) (p .3) (c .before .before .before .before .before .before .before .before .before .before .before .before .before .before .before .before .entry-at .ensures .0) in
     let one = c .before .before .before .before .before .before .before .one-if .ensures in (
       pair-added (foundIn (now (g .found)) (g .c)) (g .e .id) (c .before .before .before .before .before .before .before .before .before .before .before .before .before .before .before .before .entry-at .result .id) (c .before .before .before .before .before .before .before .before .before .tally .result) (added .0) (one .0 ∙ ap once (c .before .before .before .before .before .before .before .before .only-touch .ensures)) refl refl
-          ∙ ap (together (foundIn (now (g .found)) (g .c))) (an-item (now (g .file)) (g .i) (g .j) (p .2) f (c .before .before .before .before .before .before .before .before .before .before .before .before .before .before .if1 .left) (count-by (now (g .file)) (now (g .table)) (now (g .bounds)) (now (g .own)) (p .0) (g .i) (g .j) (p .1) (p .4) (p .2) f (c .before .before .before .before .before .before .before .before .before .tally .ensures))),
+          ∙ ap (together (foundIn (now (g .found)) (g .c))) (an-item (now (g .file)) (g .i) (g .j) (p .2) f (c .before .before .before .before .before .before .before .before .before .before .before .before .before .before .before .is-training .ensures) (c .before .before .before .before .before .before .before .before .before .before .before .before .before .before .if1 .taken) (count-by (now (g .file)) (now (g .table)) (now (g .bounds)) (now (g .own)) (p .0) (g .i) (g .j) (p .1) (p .4) (p .2) f (c .before .before .before .before .before .before .before .before .before .tally .ensures))),
       added .1,
       omega (arith, one .1),
     )
+
+returns-2 : tie.Need-returns-2
+returns-2 c = let g = c .before .before .before .before .before .before .before .before .args in
+    let p = c .before .before .before .before .before .before .before .before .pre in
+    (with-nothing (foundIn (now (g .found)) (g .c)) (no-item (now (g .file)) (g .i) (g .j) (entry-is (now (g .file)) (g .j) (g .at) (p .3) (c .before .before .entry-at .ensures .0)) (c .before .is-training .ensures) (c .if1 .left)), omega arith, omega arith)
 
 pub add-near-spec : {M : Type 1} → statement M
 add-near-spec =
@@ -82,7 +84,7 @@ add-near-spec =
     mul-entry-at
     add-entry-at
     entry-at-requires
-    returns
+    is-training-requires
     cast-tally
     cast-tally-2
     cast-tally-3
@@ -94,4 +96,5 @@ add-near-spec =
     add-tested
     add-requires
     same-length
+    returns
     returns-2)

@@ -1,0 +1,4 @@
+pub mod Worked
+pub mod Moved
+pub mod Answers
+pub mod Written
