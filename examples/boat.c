@@ -23,21 +23,23 @@ enum { RECORDINGS = 4, EDGES = 3 };
 
 static const struct {
     uint32_t id;
-    uint8_t set;
+    uint8_t set, last; /* last is the edition of the leak rule */
     size_t edges;
     edge log[EDGES];
 } night[RECORDINGS] = {
-    /* three recordings along one line, each from the edge on where the one before ends */
-    {240917101, MESKELOW_TRAINING, 2, {{{0, 3000}, {0, -3000}}, {{20000, 3000}, {20000, -3000}}}},
-    {240917102, MESKELOW_TEST, 2, {{{20000, 3000}, {20000, -3000}}, {{40000, 3000}, {40000, -3000}}}},
-    {240917103, MESKELOW_TRAINING, 2, {{{40000, 3000}, {40000, -3000}}, {{60000, 3000}, {60000, -3000}}}},
-    /* the way home, across the first: both its triangles overlap both of the other. At the end the fix dropped */
-    {240917104, MESKELOW_TEST, 3, {{{12000, 10000}, {8000, 10000}}, {{12000, -10000}, {8000, -10000}}, {{NO_FIX, NO_FIX}, {8000, -30000}}}},
+    /* Three recordings along one line. The second begins half a metre before the first ends, a sliver of its 200 m, which its edition
+     * allows; the third begins at the edge where the second ends. */
+    {240917101, MESKELOW_TRAINING, MESKELOW_EDITION_1, 2, {{{0, 3000}, {0, -3000}}, {{20000, 3000}, {20000, -3000}}}},
+    {240917102, MESKELOW_TEST, MESKELOW_EDITION_2, 2, {{{19950, 3000}, {19950, -3000}}, {{40000, 3000}, {40000, -3000}}}},
+    {240917103, MESKELOW_TRAINING, MESKELOW_EDITION_1, 2, {{{40000, 3000}, {40000, -3000}}, {{60000, 3000}, {60000, -3000}}}},
+    /* The way home, across the first: both its triangles overlap both of the other. At the end the fix dropped. */
+    {240917104, MESKELOW_TEST, MESKELOW_EDITION_2, 3,
+     {{{12000, 10000}, {8000, 10000}}, {{12000, -10000}, {8000, -10000}}, {{NO_FIX, NO_FIX}, {8000, -30000}}}},
 };
 
 static struct {
     uint32_t ids[RECORDINGS], counts[RECORDINGS];
-    uint8_t sets[RECORDINGS];
+    uint8_t sets[RECORDINGS], lasts[RECORDINGS];
     size_t recordings;
     int32_t numbers[RECORDINGS * (EDGES - 1) * 2 * 6]; /* two triangles between two edges, six numbers each */
     size_t numbers_len;
@@ -75,6 +77,7 @@ static void make_lists(bool with_dropped)
         lists.ids[lists.recordings] = night[i].id;
         lists.counts[lists.recordings] = (uint32_t)((lists.numbers_len - before) / 6);
         lists.sets[lists.recordings] = night[i].set;
+        lists.lasts[lists.recordings] = night[i].last;
         lists.recordings++;
     }
 }
@@ -84,7 +87,7 @@ static const char *reason(uint32_t number)
 {
     switch (number) {
     case MESKELOW_REFUSED_TABLE: return "the lists do not belong together";
-    case MESKELOW_REFUSED_ENTRY: return "a recording has no triangle left, or is neither training nor test";
+    case MESKELOW_REFUSED_ENTRY: return "a recording has no triangle left, is neither training nor test, or has an edition that is not for it";
     case MESKELOW_REFUSED_SAME_ID: return "two recordings have the same id";
     case MESKELOW_REFUSED_OUT_OF_RANGE: return "a position is over 10 km off the origin, or there was no fix";
     case MESKELOW_REFUSED_NO_AREA: return "the points of a triangle lie on one line";
@@ -100,8 +103,8 @@ static meskelow_written write_lists(const char *what)
 {
     memset(file, '-', sizeof file);
     size_t n = lists.recordings;
-    meskelow_written written = meskelow_write(lists.ids, n, lists.counts, n, lists.sets, n, lists.numbers, lists.numbers_len,
-                                              file, sizeof file);
+    meskelow_written written = meskelow_write(lists.ids, n, lists.counts, n, lists.sets, n, lists.lasts, n,
+                                              lists.numbers, lists.numbers_len, file, sizeof file);
     if (written.number == 0)
         printf("%s: %zu recordings in %zu bytes\n", what, n, written.length);
     else

@@ -28,7 +28,7 @@ int main(int argc, char **argv)
     }
     if (list.number != 0)
         return 2;
-    fprintf(stderr, "%" PRIu32 " overlap, %" PRIu32 " only touch; %" PRIu32 " triangle pairs tested; %" PRIu32 " formerly held back\n",
+    fprintf(stderr, "%" PRIu32 " leak, %" PRIu32 " only touch; %" PRIu32 " triangle pairs tested; %" PRIu32 " formerly held back\n",
             list.leaks, list.touching, list.tested, list.formerly_held_back);
     return list.leaks != 0;
 }

@@ -40,7 +40,7 @@ fn run() -> io::Result<i32> {
         return Ok(2);
     }
     eprintln!(
-        "{} overlap, {} only touch; {} triangle pairs tested; {} formerly held back",
+        "{} leak, {} only touch; {} triangle pairs tested; {} formerly held back",
         list.leaks, list.touching, list.tested, list.formerly_held_back
     );
     Ok(i32::from(list.leaks > 0))

@@ -1,5 +1,5 @@
 #!/usr/bin/env python3
-"""Makes four footprint files: night, clean, neighbours and cut_night.
+"""Makes six footprint files: night, clean, neighbours, cut_night, editions and sums.
 
     make_night.py [DIRECTORY]      writes them there, else beside this script
 
@@ -12,6 +12,7 @@ import struct
 import sys
 
 TRAINING, TEST = 0, 1
+EDITION_1, EDITION_2 = 0, 1  # the last byte of an entry
 FARTHEST = 1_000_000  # centimetres from the origin, along each axis
 STEPS = 12  # stretches of a recording, each of them a quadrilateral of about 170 m
 
@@ -81,10 +82,10 @@ def area_of(triangle):
 
 
 def footprint(recordings):
-    """The bytes of a footprint file: triangles, table, trailer."""
+    """The bytes of a footprint file: triangles, table, trailer. What names no edition is of the first."""
     triangles = table = b""
-    for identity, which, own in recordings:
-        table += struct.pack("<IIHBB", identity, len(triangles), len(own), which, 0)
+    for identity, which, own, *last in recordings:
+        table += struct.pack("<IIHBB", identity, len(triangles), len(own), which, *last or [EDITION_1])
         for triangle in own:
             triangles += struct.pack("<6i", *(c for vertex in triangle for c in vertex))
     length = len(triangles) + len(table) + 12
@@ -134,10 +135,38 @@ def neighbours():
     return footprint(boat.recordings)
 
 
+def stretch(begin, end, across):
+    """What a boat sees that sails due east: a rectangle, 60 m wide."""
+    before, after = (((x, across + 3000), (x, across - 3000)) for x in (begin, end))
+    return halves(before, after)
+
+
+def editions():
+    """Three lines, on each of which a test recording begins before the training recording ends: twice by 1 m of 201, and on the third
+    by 10 m of 210. On the first a training recording follows, which shares an edge with the test recording."""
+    recordings = [
+        (TRAINING, stretch(0, 20000, 0)),
+        (TEST, stretch(19900, 40000, 0), EDITION_2),
+        (TRAINING, stretch(40000, 60000, 0)),
+        (TRAINING, stretch(0, 20000, 20000)),
+        (TEST, stretch(19900, 40000, 20000), EDITION_1),
+        (TRAINING, stretch(0, 20000, 40000)),
+        (TEST, stretch(19000, 40000, 40000), EDITION_2),
+    ]
+    return footprint([(240925001 + i, *recording) for i, recording in enumerate(recordings)])
+
+
+def sums():
+    """Two training recordings of the same three triangles, in one order and in the other. Each cuts the corner off the triangle of the
+    test recording, which has 60 square centimetres: a tenth of one, two tenths, and three."""
+    cuts = [((-w, 6), (w, -4), (-w, -4)) for w in (1, 2, 3)]
+    return footprint([(7, TRAINING, cuts), (8, TRAINING, cuts[::-1]), (9, TEST, [((0, 0), (8, 0), (0, 15))], EDITION_2)])
+
+
 def main():
     directory = pathlib.Path(sys.argv[1]) if len(sys.argv) > 1 else pathlib.Path(__file__).resolve().parent
     whole = night()
-    files = {"night": whole, "clean": clean(), "neighbours": neighbours(), "cut_night": whole[: 40 * 512]}
+    files = {"night": whole, "clean": clean(), "neighbours": neighbours(), "cut_night": whole[: 40 * 512], "editions": editions(), "sums": sums()}
     for name, content in files.items():
         (directory / f"{name}.footprint").write_bytes(content)
 

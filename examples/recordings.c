@@ -35,7 +35,7 @@ static void show(const uint8_t *file, size_t length)
         meskelow_entry entry = meskelow_recording(file, length, k);
         if (entry.number == MESKELOW_REFUSED_NO_RECORDING) /* the file is good, so no other refusal comes */
             return;
-        printf("%s recording %" PRIu32 ":", sets[entry.set], entry.id);
+        printf("%s recording %" PRIu32 "%s:", sets[entry.set], entry.id, entry.last == MESKELOW_EDITION_2 ? " of edition 2" : "");
         show_triangles(file + entry.first, entry.count);
     }
 }

@@ -13,6 +13,9 @@
  * is lent no room; every file that is written is accepted and has what was given; every text reads back as the triangles. Not
  * proved: the compiler's back end, memcpy, memset, and the caller.
  *
+ * A program that calls meskelow_write and was compiled with a header before version 0.8 has to be changed and compiled again: the
+ * function takes one list more (see there), and the linker does not notice.
+ *
  * What is left to the caller: the lengths are true, so that so many doubles, integers or bytes may be read, and in the room read
  * and written; the room overlaps no values, file or list that is lent with it; nobody writes to what is lent before the call has
  * returned; and the processor rounds to nearest and keeps subnormal values, as it does unless a program asks otherwise. A length
@@ -147,9 +150,9 @@ enum { /* refusals.tsv: file */
     MESKELOW_REFUSED_STORED_LENGTH = 12, /* the length in the trailer is not the file's, as after a copy that was cut off */
     MESKELOW_REFUSED_TRAILER = 13,       /* there are over 64 recordings, or in a file the table's place, 12 for each recording
                                           * and 12 for the trailer do not add up to the length (place: the trailer) */
-    MESKELOW_REFUSED_ENTRY = 14,         /* an entry has no triangles, a set over 2, or in lists to be written over 1, a last
-                                          * byte that is not 0, or in a file does not begin where the one before ends, the
-                                          * first at 0 (place: the entry) */
+    MESKELOW_REFUSED_ENTRY = 14,         /* an entry has no triangles, a set over 2 (over 1 in lists to be written), a last
+                                          * byte over 1 (over 0 beside any set but 1), or in a file does not begin where the
+                                          * one before ends, the first at 0 (place: the entry) */
     MESKELOW_REFUSED_TABLE = 15,         /* the last triangle does not end at the table, or there are no recordings and the
                                           * table is not at 0; of lists to be written: their lengths differ, a triangle is
                                           * broken off, or the counts do not add up to the triangles (place: the table) */
@@ -173,6 +176,11 @@ enum { /* the sets of recordings, as they are stored */
                                      * MESKELOW_HELD_BACK; whoever used that name should see README.md, "No more held back") */
 };
 
+enum { /* the editions of the leak rule, as the last byte of a recording's entry names them; meskelow_leaks says what they are */
+    MESKELOW_EDITION_1 = 0, /* any overlap with a training recording is a leak. Training recordings have this byte too */
+    MESKELOW_EDITION_2 = 1  /* of test recordings only: a sliver is no leak, an overlap of at most a hundredth of the own area */
+};
+
 enum { /* refusals.tsv: recording */
     MESKELOW_REFUSED_NO_RECORDING = 10 /* the file is good, but has no such recording */
 };
@@ -185,7 +193,7 @@ typedef struct {
     uint32_t first;    /* place of the first triangle, */
     uint32_t count;    /* count of triangles, one at least, */
     uint32_t set;      /* MESKELOW_TRAINING, MESKELOW_TEST or MESKELOW_FORMERLY_HELD_BACK, as the file has it, */
-    uint32_t last;     /* and the entry's last byte, zero today */
+    uint32_t last;     /* and the entry's last byte: MESKELOW_EDITION_1, or of a test recording also MESKELOW_EDITION_2 */
 } meskelow_entry;
 
 /* Recording k of the file, from 0. Its triangles are the 24 * count bytes from file + first on, which lie in the file: six
@@ -204,20 +212,26 @@ typedef struct {       /* of what was to be written to a room: */
     size_t length;     /* of an answer, how many bytes were written, at the front of the room; no NUL stands behind them */
 } meskelow_written;
 
-/* Writes a footprint file to the front of the room, and leaves the rest of the room as it is. ids, counts and sets have an entry
- * for each recording, in the order of the table: its id, how many triangles it has, its set. numbers has six for each triangle, x
+/* Writes a footprint file to the front of the room, and leaves the rest of the room as it is. ids, counts, sets and lasts have an
+ * entry for each recording, in the order of the table: its id, how many triangles it has, its set, and its last byte, which is the
+ * edition of the leak rule that a test recording goes by, and MESKELOW_EDITION_1 for all others. numbers has six for each triangle, x
  * and y of three vertices in whole centimetres, first all triangles of the first recording, then all of the second, and so on.
- * Where each recording begins, its last byte, which is 0, and the trailer are the writer's own.
+ * Where each recording begins, and the trailer, are the writer's own.
+ *
+ * lasts and lasts_len came with version 0.8; MESKELOW_EDITION_1 throughout is what was written before. This breaks programs that
+ * were compiled with an older header, and linking them does not tell: their numbers would be taken for last bytes, their room for
+ * numbers, and what happens to lie behind on the stack for a room. So they must not be linked with this library.
  *
  * meskelow_check finds every file good that was written, and meskelow_recording hands its recordings back as they were given: ids,
- * counts, sets and triangles. The other way round, what meskelow_recording tells of a good file without
+ * counts, sets, last bytes and triangles. The other way round, what meskelow_recording tells of a good file without
  * MESKELOW_FORMERLY_HELD_BACK, put into such lists for k from 0 on, makes that file again, byte for byte; of one with it the lists
  * are refused, 14, and with MESKELOW_TRAINING in its place they make a file of which the leak list is the same but for its last line.
  *
  * A call is refused, with nothing written, for the first of these that applies:
  *
- *     15  ids, counts and sets differ in length, or numbers_len is no multiple of 6, so that a triangle is broken off
- *     14  entry after entry: its count is 0, or its set is neither MESKELOW_TRAINING nor MESKELOW_TEST;
+ *     15  ids, counts, sets and lasts differ in length, or numbers_len is no multiple of 6, so that a triangle is broken off
+ *     14  entry after entry: its count is 0, its set is neither MESKELOW_TRAINING nor MESKELOW_TEST, or its last byte is neither
+ *                            MESKELOW_EDITION_1 nor, where the set is MESKELOW_TEST, MESKELOW_EDITION_2;
  *     16                     else its id is that of an earlier entry
  *     15  the counts do not add up to the triangles; the sum is exact, and 0 without recordings
  *     17  triangle after triangle: a number is out of range;
@@ -231,8 +245,8 @@ typedef struct {       /* of what was to be written to a room: */
  * Lists of any length are judged by these rules in full, and those with over 64 entries are refused slowly at worst: each id is
  * compared with all earlier ones before 13 is said, which for 100,000 entries makes 5,000 million comparisons. */
 meskelow_written meskelow_write(const uint32_t *ids, size_t ids_len, const uint32_t *counts, size_t counts_len,
-                                const uint8_t *sets, size_t sets_len, const int32_t *numbers, size_t numbers_len,
-                                uint8_t *room, size_t room_len);
+                                const uint8_t *sets, size_t sets_len, const uint8_t *lasts, size_t lasts_len,
+                                const int32_t *numbers, size_t numbers_len, uint8_t *room, size_t room_len);
 
 enum {
     MESKELOW_TEXT_ROOM = 256545 /* bytes, which hold every recording's well-known text */
@@ -270,7 +284,8 @@ typedef struct {
     uint32_t number;   /* 0: an answer. Else the file's own refusal, or the one above, and every field below place is zero */
     uint32_t place;    /* the file's own, or 0 */
     size_t length;     /* of an answer, the list's bytes, at the front of the room; no NUL stands behind them */
-    uint32_t leaks;    /* how many leak lines it has: 0 says that no test recording overlaps a training recording, */
+    uint32_t leaks;    /* how many leak lines it has: 0 says that no test recording overlaps a training recording, but for slivers
+                        * where the test recording goes by MESKELOW_EDITION_2, */
     uint32_t touching; /* the number behind `touching`: how many pairs of a test and a training recording only touch, */
     uint32_t tested;   /* how many triangle pairs of test and training recordings were given to the triangle rules: those whose
                         * boxes share a point, no more and no fewer. It is no part of the list's text. (Since this field the
@@ -279,12 +294,27 @@ typedef struct {
                                   * MESKELOW_FORMERLY_HELD_BACK. (The struct still has 32 bytes) */
 } meskelow_list;
 
-/* The leak list of the file: `leaks K`; then for each test recording and training recording with a triangle pair that overlaps, in
- * table order, a line `test T train R pairs N` with their ids and the number of triangle pairs that overlap; then, always,
- * `touching K` with the number of pairs of a test and a training recording that have a triangle pair that touches and none that
- * overlaps, each counted once; last, always, `formerly held back K` with the number of recordings that are stored with
- * MESKELOW_FORMERLY_HELD_BACK, whether they meet a test recording or not: they are training recordings here. Decimal numbers, a line
- * feed after each line. The shortest list has 40 bytes. */
+/* The leak list of the file: `leaks K`; then for each test recording and training recording that leak, in table order, a line
+ * `test T train R pairs N` with their ids and the number of triangle pairs that overlap; then, always, `touching K` with the number
+ * of pairs of a test and a training recording that have a triangle pair that touches and none that overlaps, each counted once;
+ * last, always, `formerly held back K` with the number of recordings that are stored with MESKELOW_FORMERLY_HELD_BACK, whether they
+ * meet a test recording or not: they are training recordings here. Decimal numbers, a line feed after each line. The shortest list
+ * has 40 bytes.
+ *
+ * Whether two recordings leak goes by the test recording's edition:
+ *
+ *     MESKELOW_EDITION_1  a triangle pair of theirs overlaps
+ *     MESKELOW_EDITION_2  100 times the sum of the areas of their triangle pairs that overlap is above the test recording's own area
+ *
+ * The sum is of these two recordings alone. It begins at 0.0, and the areas, which are those of meskelow_decide in square
+ * centimetres, are added one by one: the test triangles as they are stored, each with the training triangles as they are stored. The
+ * own area is half of what the absolute e of the test triangles, as they are stored, add up to from 0.0; e is the cross of the sides
+ * from a triangle's first vertex, twice its area. Each addition and the product with 100 are rounded once, so the order can decide
+ * (README.md, "Slivers", has a file where it does). What is equal is not above: one per cent is no leak. (A pair that the triangle
+ * rules refuse makes a leak by either edition, whatever the sum is; no good file has one.)
+ *
+ * An overlap that is no leak is a sliver: it has no line, and the two do not count under `touching` either. N, touching, tested and
+ * formerly_held_back are the same by either edition, and the text names none. */
 meskelow_list meskelow_leaks(const uint8_t *file, size_t file_len, uint8_t *room, size_t room_len);
 
 #ifdef __cplusplus

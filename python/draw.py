@@ -11,8 +11,9 @@ is 3 unless Python itself does not begin, there is no picture, or not all of one
 
 Training recordings are blue, test recordings orange, and those of old files that were held back once, which are training too, light
 blue with a broken outline. Recordings that stand in the leak list have a black outline and their ids; what a test recording shares
-with training recordings is black, with a line around it, since it may be too small to be seen. Both axes have one scale, x to the
-right and y upwards.
+with training recordings is black, with a line around it, since it may be too small to be seen. Where that is no leak, as the test
+recording is of edition 2 and it is a sliver, it is purple, with a broken line around it. Both axes have one scale, x to the right and
+y upwards.
 
 All is computed in whole numbers, so the same file and title give the same bytes everywhere. (Where the parts lie that strips share
 is the library's answer, in f64, which is the same everywhere too.)
@@ -24,7 +25,7 @@ import itertools
 import math
 import os
 import sys
-from typing import Dict, Iterable, Iterator, List, NamedTuple, Sequence, Tuple
+from typing import Container, Dict, Iterable, Iterator, List, NamedTuple, Sequence, Set, Tuple
 
 import meskelow
 
@@ -56,8 +57,10 @@ STYLES = {
     meskelow.FORMERLY_HELD_BACK: Style("formerly held back (training)", "#b3d4ea", "#00456b", ' stroke-dasharray="3 2"'),
 }
 MARK = "#000"
+SLIVER = "#a0286e"
 
 AROUND = 9 * UNIT  # from what strips share to the line around it
+BROKEN = 13 * UNIT  # the same for slivers, so that either line is seen where there are both
 ENOUGH = 1500  # shared parts, to know where that line goes
 CELL = 6 * UNIT  # of the squares by which labels know what they cover
 
@@ -126,35 +129,53 @@ def picture(file: meskelow.Bytes, title: str = "A footprint file") -> str:
     """The picture of the file, as the text of an SVG document without a line feed at its end. Raises `meskelow.Refused`, 11 to 18."""
     recordings = list(meskelow.recordings(file))
     found = meskelow.leaks(file)
-    leaking = {i for leak in found.leaks for i in (leak.test, leak.train)}
+    slivers = slivers_of(file, found)
+    leaking = ids_of(found.leaks)
     chart = chart_of(recordings, len(leaking))
     title = "".join(c if is_character(c) else "\ufffd" for c in title)
-    legend, height = legend_of(recordings, len(found.leaks), len(leaking), chart)
-    sentence = sentence_of(found, len(recordings))
+    legend, height = legend_of(recordings, len(found.leaks), len(slivers), len(leaking), chart)
+    sentence = sentence_of(found, len(slivers), len(recordings))
     parts = [
         f'<svg xmlns="http://www.w3.org/2000/svg" width="{number(WIDTH)}" height="{number(height)}"'
         f' viewBox="0 0 {number(WIDTH)} {number(height)}" font-family="sans-serif"'
         ' role="img" aria-labelledby="title" aria-describedby="desc">',
         f'<title id="title">{escaped(title)}</title>',
-        f'<desc id="desc">{sentence} {sets_in_words(recordings)} The y axis points up. The leak list:\n{found.text}</desc>',
+        f'<desc id="desc">{sentence} {sets_in_words(recordings)}{editions_in_words(recordings, slivers)} The y axis points up.'
+        f" The leak list:\n{found.text}</desc>",
         f'<rect width="{number(WIDTH)}" height="{number(height)}" fill="#fff"/>',
         headline(title),
         text(MARGIN, 61 * UNIT, sentence, 15 * UNIT),
         rectangle(chart.frame, ' fill="none" stroke="#bbb"'),
-        *map_of(recordings, found, chart),
+        *map_of(recordings, found.leaks, slivers, chart),
         *legend,
         "</svg>",
     ]
     return "\n".join(parts)
 
 
+def slivers_of(file: meskelow.Bytes, found: meskelow.LeakList) -> List[meskelow.Leak]:
+    """The recordings that overlap and do not leak: those that the list has beside the leaks if every last byte is that of edition 1."""
+    first = bytearray(memoryview(file).tobytes())
+    lasts = slice(int.from_bytes(first[-12:-8], "little") + 11, -12, 12)  # from the table's place, which the trailer has
+    first[lasts] = bytes([meskelow.EDITION_1]) * len(first[lasts])
+    told = set(found.leaks)
+    return [leak for leak in meskelow.leaks(first).leaks if leak not in told]
+
+
+def ids_of(leaks: Iterable[meskelow.Leak]) -> Set[int]:
+    return {i for leak in leaks for i in (leak.test, leak.train)}
+
+
 # ---- words
 
 
-def sentence_of(found: meskelow.LeakList, recordings: int) -> str:
+def sentence_of(found: meskelow.LeakList, slivers: int, recordings: int) -> str:
     if recordings == 0:
         return "There are no leaks: the file has no recordings."
     touching = "1 more pair only touches" if found.touching == 1 else f"{found.touching} more pairs only touch"
+    if slivers > 0:
+        leaks = "1 leak" if len(found.leaks) == 1 else f"{len(found.leaks)} leaks" if found.leaks else "There are no leaks"
+        return f"{leaks}, and {slivers} sliver{'s' * (slivers > 1)} that edition 2 allows. {touching}."
     if not found.leaks:
         touching = touching.replace(" more", "")
         return f"There are no leaks: no test recording overlaps a training recording. {touching}."
@@ -170,6 +191,14 @@ def counted(n: int) -> str:
 def sets_in_words(recordings: Sequence[meskelow.Recording]) -> str:
     counts = [(style.name, sum(r.set == which for r in recordings)) for which, style in STYLES.items()]
     return f"{counted(len(recordings))}: {', '.join(f'{name} {n}' for name, n in counts)}."
+
+
+def editions_in_words(recordings: Sequence[meskelow.Recording], slivers: Sequence[meskelow.Leak]) -> str:
+    count = sum(r.last == meskelow.EDITION_2 for r in recordings)
+    if count == 0:
+        return ""
+    pairs = f" Slivers, which it allows: {', '.join(f'test {s.test} and train {s.train}' for s in slivers)}." if slivers else ""
+    return f" By edition 2: {counted(count)}.{pairs}"
 
 
 def is_character(c: str) -> bool:
@@ -246,32 +275,39 @@ def chart_of(recordings: Sequence[meskelow.Recording], labels: int) -> Chart:
     return Chart(frame, sea, numerator, denominator)
 
 
-def map_of(recordings: Sequence[meskelow.Recording], found: meskelow.LeakList, chart: Chart) -> Iterator[str]:
+def map_of(
+    recordings: Sequence[meskelow.Recording], leaks: Sequence[meskelow.Leak], slivers: Sequence[meskelow.Leak], chart: Chart
+) -> Iterator[str]:
     if not recordings:
         x, y = chart.frame.middle()
         yield text(x, y, "no recordings", 18 * UNIT, ' text-anchor="middle" fill="#595959"')
         return
-    leaking = {i for leak in found.leaks for i in (leak.test, leak.train)}
+    leaking, shown = ids_of(leaks), ids_of(slivers)
     upwards = (meskelow.FORMERLY_HELD_BACK, meskelow.TRAINING, meskelow.TEST)
     for which in upwards:
-        yield from strips([r for r in recordings if r.set == which and r.id not in leaking], STYLES[which], chart)
+        yield from strips([r for r in recordings if r.set == which and r.id not in leaking], STYLES[which], shown, chart)
     for which in upwards:
         yield from outlined_strips([r for r in recordings if r.set == which and r.id in leaking], STYLES[which], chart)
-    if found.leaks:
-        shared = shared_parts(recordings, found, chart)
-        marks = marks_of(shared)
-        yield from overlaps(found)
-        yield from marked(marks)
-        yield from labelled(labels_of(recordings, leaking, shared, marks, chart))
+    shared = shared_parts(recordings, leaks, chart)
+    marks, around_slivers = marks_of(shared), marks_of(shared_parts(recordings, slivers, chart))
+    if slivers:
+        yield from overlaps(slivers, "s", SLIVER)
+        yield from marked(around_slivers, BROKEN, "slivers", SLIVER, ' stroke-dasharray="5 3"')
+    if leaks:
+        yield from overlaps(leaks, "c", MARK)
+        yield from marked(marks, AROUND, "marks", MARK)
+        yield from labelled(labels_of(recordings, leaking, shared, [*marks, *around_slivers], chart))
 
 
-def strips(recordings: Sequence[meskelow.Recording], style: Style, chart: Chart) -> Iterator[str]:
+def strips(recordings: Sequence[meskelow.Recording], style: Style, shown: Container[int], chart: Chart) -> Iterator[str]:
     """The outline comes first and the fill over it, so that of a strip's triangles only what lies outside has a line. What is too
-    small to be seen has a dot around it."""
+    small to be seen has a dot around it. Those that are shown again have a name for it."""
     if recordings:
         line = f'stroke="{style.stroke}" stroke-linejoin="round"{style.dashes}'
         yield f'<g fill="{style.fill}" {line} paint-order="stroke" opacity=".85">'
-        yield from (f'<path d="{path_of(r, chart)}"/>{dot_of(r, chart)}' for r in recordings)
+        for r in recordings:
+            name = f' id="r{r.id}"' if r.id in shown else ""
+            yield f'<path{name} d="{path_of(r, chart)}"/>{dot_of(r, chart)}'
         yield "</g>"
 
 
@@ -295,16 +331,16 @@ def dot_of(recording: meskelow.Recording, chart: Chart) -> str:
     return f'<circle cx="{number(x)}" cy="{number(y)}" r="4"/>'
 
 
-def overlaps(found: meskelow.LeakList) -> Iterator[str]:
-    """Each test recording once more, cut to the training recordings that it overlaps."""
+def overlaps(leaks: Iterable[meskelow.Leak], letter: str, colour: str) -> Iterator[str]:
+    """Each test recording once more, in this colour, cut to the training recordings that it overlaps."""
     trains: Dict[int, List[int]] = {}
-    for leak in found.leaks:
+    for leak in leaks:
         trains.setdefault(leak.test, []).append(leak.train)
     for test, own in trains.items():
-        yield f'<clipPath id="c{test}">{"".join(f"""<use href="#r{i}"/>""" for i in own)}</clipPath>'
-    yield f'<g fill="{MARK}" stroke="none">'
+        yield f'<clipPath id="{letter}{test}">{"".join(f"""<use href="#r{i}"/>""" for i in own)}</clipPath>'
+    yield f'<g fill="{colour}" stroke="none">'
     for test in trains:
-        yield f'<use href="#r{test}" clip-path="url(#c{test})"/>'
+        yield f'<use href="#r{test}" clip-path="url(#{letter}{test})"/>'
     yield "</g>"
 
 
@@ -321,12 +357,12 @@ class Shared(NamedTuple):
     ring: Tuple[Point, ...]  # in the picture
 
 
-def shared_parts(recordings: Sequence[meskelow.Recording], found: meskelow.LeakList, chart: Chart) -> List[Shared]:
-    """Parts that the recordings of leaks share, of each leak at least one: all, if there are not many more than ENOUGH, and else some
-    from all over the test recording."""
+def shared_parts(recordings: Sequence[meskelow.Recording], leaks: Sequence[meskelow.Leak], chart: Chart) -> List[Shared]:
+    """Parts that the recordings of leaks, or of slivers, share, of each two at least one: all, if there are not many more than ENOUGH,
+    and else some from all over the test recording."""
     by_id = {r.id: r for r in recordings}
-    most = max(ENOUGH // max(len(found.leaks), 1), 1)
-    return [part for leak in found.leaks for part in parts_of(leak, by_id[leak.test], by_id[leak.train], chart, most)]
+    most = max(ENOUGH // max(len(leaks), 1), 1)
+    return [part for leak in leaks for part in parts_of(leak, by_id[leak.test], by_id[leak.train], chart, most)]
 
 
 def parts_of(leak: meskelow.Leak, test: meskelow.Recording, train: meskelow.Recording, chart: Chart, most: int) -> List[Shared]:
@@ -399,14 +435,14 @@ def around(corners: Sequence[Point], distance: int) -> str:
     return f"M{ends[0][0]}" + "".join(f"L{this[1]}{arc}{following[0]}" for this, following in zip(ends, ends[1:] + ends[:1])) + "z"
 
 
-def marked(marks: Sequence[Sequence[Point]]) -> Iterator[str]:
-    yield from on_white("marks", [f'<path d="{around(mark, AROUND)}"/>' for mark in marks], MARK, "1.8", "4.5")
+def marked(marks: Sequence[Sequence[Point]], distance: int, name: str, stroke: str, dashes: str = "") -> Iterator[str]:
+    yield from on_white(name, [f'<path d="{around(mark, distance)}"/>' for mark in marks], stroke, "1.8", "4.5", dashes)
 
 
-def on_white(name: str, shapes: Sequence[str], stroke: str, width: str, below: str) -> Iterator[str]:
+def on_white(name: str, shapes: Sequence[str], stroke: str, width: str, below: str, dashes: str = "") -> Iterator[str]:
     """Lines that are seen on any strip, as there is white below them."""
     yield f'<use href="#{name}" stroke="#fff" stroke-width="{below}" opacity=".8"/>'
-    yield f'<g stroke="{stroke}" stroke-width="{width}"><g id="{name}" fill="none">'
+    yield f'<g stroke="{stroke}" stroke-width="{width}"{dashes}><g id="{name}" fill="none">'
     yield from shapes
     yield "</g></g>"
 
@@ -572,7 +608,7 @@ def labelled(labels: Sequence[Label]) -> Iterator[str]:
 # ---- legend and scale
 
 
-def legend_of(recordings: Sequence[meskelow.Recording], leaks: int, leaking: int, chart: Chart) -> Tuple[List[str], int]:
+def legend_of(recordings: Sequence[meskelow.Recording], leaks: int, slivers: int, leaking: int, chart: Chart) -> Tuple[List[str], int]:
     """The legend and the scale, below the map, and how high the picture is with them."""
     entries = []
     for which, style in STYLES.items():
@@ -583,6 +619,9 @@ def legend_of(recordings: Sequence[meskelow.Recording], leaks: int, leaking: int
     if leaking > 0:
         entries.append((f' fill="#fff" stroke="{MARK}" stroke-width="1.8"', f"in a leak, with its id (test bold): {counted(leaking)}"))
         entries.append((f' fill="{MARK}"', f"overlap of test and training, encircled: {leaks} leak{'s' * (leaks > 1)}"))
+    if slivers > 0:
+        words = f"overlap that edition 2 allows, in a broken line: {slivers} sliver{'s' * (slivers > 1)}"
+        entries.append((f' fill="{SLIVER}"', words))
     right = WIDTH - MARGIN
     parts: List[str] = []
     if recordings:

@@ -25,6 +25,10 @@
         old = meskelow.FORMERLY_HELD_BACK
         file = meskelow.write(r._replace(set=meskelow.TRAINING) if r.set == old else r for r in meskelow.recordings(file))
 
+    second = meskelow.EDITION_2  # by which slivers are no leaks
+    allowing = meskelow.write(r._replace(last=second) if r.set == meskelow.TEST else r for r in meskelow.recordings(file))
+    print(len(meskelow.leaks(allowing).leaks), "leaks are more than slivers")
+
     print(meskelow.wkt(file, found.leaks[0].test))  # for a viewer: GEOMETRYCOLLECTION (POLYGON ((0.00 0.00, 4.00 0.00, ...
 
 What the rules refuse is raised as `Refused`, a ValueError that carries their number and place. So whatever a function
@@ -67,6 +71,7 @@ LIBRARY = ROOT / "target" / "python" / "libmeskelow.so"
 REFUSALS = ROOT / "refusals.tsv"
 
 TRAINING, TEST, FORMERLY_HELD_BACK = 0, 1, 2  # the sets of recordings, as they are stored; the last, of old files, is training too
+EDITION_1, EDITION_2 = 0, 1  # the editions of the leak rule, as a recording's last byte names them; the second of test recordings only
 
 # The refusals by name, from refusals.tsv.
 REFUSED_LENGTHS = 1
@@ -185,12 +190,13 @@ class Recording(NamedTuple):
     id: int
     set: int  # TRAINING, TEST or FORMERLY_HELD_BACK, as the file has it
     first: int  # place of the first triangle
-    last: int  # the entry's last byte
+    last: int  # the entry's last byte: EDITION_1, or of a test recording also EDITION_2
     triangles: Tuple[Tuple[Tuple[int, int], Tuple[int, int], Tuple[int, int]], ...]  # whole centimetres
 
 
 class Draft(Protocol):
-    """What `write` asks of a recording: a `Recording`, or any object that has these. If it has a `last` too, that has to be 0."""
+    """What `write` asks of a recording: a `Recording`, or any object that has these. It may have a `last` too, EDITION_1 or EDITION_2,
+    and is of EDITION_1 if it has none."""
 
     @property
     def id(self) -> SupportsIndex: ...
@@ -203,7 +209,7 @@ class Draft(Protocol):
 
 
 class Leak(NamedTuple):
-    """A test recording that overlaps a training recording, by their ids."""
+    """A test recording and a training recording that leak, by their ids: they overlap, by EDITION_2 in more than a sliver."""
 
     test: int
     train: int
@@ -294,25 +300,27 @@ def recordings(file: Bytes) -> Iterator[Recording]:
 
 def write(recordings: Iterable[Draft]) -> bytes:
     """The footprint file with these recordings, in their order. `check` accepts it, and the function `recordings` gives their ids,
-    sets and triangles back; and `write(recordings(file))` are the bytes of the file, unless it has FORMERLY_HELD_BACK, with which
-    nothing is written. What is iterated is gone through once: of an iterator that was used up before there are no recordings left,
-    and the file is the one without any, of 12 bytes.
+    sets, editions and triangles back; and `write(recordings(file))` are the bytes of the file, unless it has FORMERLY_HELD_BACK, with
+    which nothing is written. What is iterated is gone through once: of an iterator that was used up before there are no recordings
+    left, and the file is the one without any, of 12 bytes.
 
-    Each recording is taken by its id, set and triangles. Where it begins is the file's own, so `first` is not looked at. Ids, sets
-    and coordinates are whole numbers as indexes of lists are: True is 1, and 1.0 is a TypeError. An id that is not from 0 to
-    2^32 - 1 is an OverflowError. These errors are raised before anything is judged; but the coordinates of a triangle that is
-    refused for its shape are not looked at.
+    Each recording is taken by its id, set and triangles, and by `last`, the edition of the leak rule that it goes by, which is
+    EDITION_1 if it has none. Where it begins is the file's own, so `first` is not looked at. Ids, sets, editions and coordinates are
+    whole numbers as indexes of lists are: True is 1, and 1.0 is a TypeError. An id that is not from 0 to 2^32 - 1 is an OverflowError.
+    These errors are raised before anything is judged; but the coordinates of a triangle that is refused for its shape are not looked
+    at.
 
     Raises `Refused` with place 0, for the first of these that applies: 15 for a triangle that is not three vertices with two
     coordinates each; for recording after recording 14, which is one without triangles, a set other than TRAINING and TEST or a `last`
-    that is not 0, and 16, an id that an earlier one has; for triangle after triangle 17, a coordinate out of range, and 18, no area;
-    13 for over 64 recordings; 19 for a file that would be longer than 65,536 bytes. Very many recordings take long: each id is
-    compared with all earlier ones before 13 is said."""
-    ids, counts, sets, coordinates = array.array("I"), array.array("I"), bytearray(), array.array("i")
+    other than EDITION_1 and, with TEST, EDITION_2, and 16, an id that an earlier one has; for triangle after triangle 17, a coordinate
+    out of range, and 18, no area; 13 for over 64 recordings; 19 for a file that would be longer than 65,536 bytes. So what becomes
+    TRAINING needs EDITION_1 as well. Very many recordings take long: each id is compared with all earlier ones before 13 is said."""
+    ids, counts, sets, lasts, coordinates = array.array("I"), array.array("I"), bytearray(), bytearray(), array.array("i")
     whole = True
     for draft in recordings:
         ids.append(_id(draft.id))
-        sets.append(_set_of(draft))
+        sets.append(_byte(draft.set))
+        lasts.append(_byte(getattr(draft, "last", EDITION_1)))
         count = 0
         for triangle in draft.triangles:
             if len(triangle) == 3 and all(len(vertex) == 2 for vertex in triangle):
@@ -325,13 +333,17 @@ def write(recordings: Iterable[Draft]) -> bytes:
         raise Refused(REFUSED_TABLE)
     room = ctypes.create_string_buffer(65536)
     of_recordings = (*_slice(ctypes.c_uint32, ids), *_slice(ctypes.c_uint32, counts), *_slice(ctypes.c_uint8, sets))
-    got = _library().meskelow_write(*of_recordings, *_slice(ctypes.c_int32, coordinates), room, len(room))
+    got = _library().meskelow_write(
+        *of_recordings, *_slice(ctypes.c_uint8, lasts), *_slice(ctypes.c_int32, coordinates), room, len(room)
+    )
     _raise_if_refused(got.number, got.place)
     return room.raw[: got.length]
 
 
 def leaks(file: Bytes) -> LeakList:
-    """The file's leak list. Raises `Refused`, 11 to 18. A thread needs 400 KB of stack for it (`threading.stack_size`)."""
+    """The file's leak list. Of a test recording of EDITION_1 any overlap with a training recording is a leak; of EDITION_2 one is that
+    is more than a hundredth of its own area, by the sums that the header tells, and else it has no line and is not in `touching`.
+    Raises `Refused`, 11 to 18. A thread needs 400 KB of stack for it (`threading.stack_size`)."""
     lent = _lent(file)
     room = ctypes.create_string_buffer(65536)
     got = _library().meskelow_leaks(lent, len(lent), room, len(room))
@@ -435,7 +447,7 @@ _FUNCTIONS = {
     "meskelow_recording": (_Entry, [ctypes.c_char_p, ctypes.c_size_t, ctypes.c_size_t]),
     "meskelow_write": (
         _Written,
-        [word for pointer in (_U32S, _U32S, _U8S, _I32S, ctypes.c_char_p) for word in (pointer, ctypes.c_size_t)],
+        [word for pointer in (_U32S, _U32S, _U8S, _U8S, _I32S, ctypes.c_char_p) for word in (pointer, ctypes.c_size_t)],
     ),
     "meskelow_leaks": (_List, [ctypes.c_char_p, ctypes.c_size_t, ctypes.c_char_p, ctypes.c_size_t]),
     "meskelow_wkt": (_Written, [ctypes.c_char_p, ctypes.c_size_t, ctypes.c_uint32, ctypes.c_char_p, ctypes.c_size_t]),
@@ -455,10 +467,19 @@ def _library() -> ctypes.CDLL:
             function = getattr(library, name)
             function.restype = answer
             function.argtypes = words
+        if not _has_editions(library):
+            raise LibraryError(f"{LIBRARY} is of a version before 0.8: {to_build}")
     except (OSError, AttributeError) as error:
         kind = f"it is x86-64 Linux code, and this Python is for {platform.machine()}"
         raise LibraryError(f"cannot load {LIBRARY} ({kind}): {error}; to make it again, {to_build}") from error
     return library
+
+
+def _has_editions(library: ctypes.CDLL) -> bool:
+    """Whether the writer takes last bytes. One that does not takes the numbers here, of which there are none, for the room, finds it too
+    short and writes nothing; with recordings it would go by lengths that are not true."""
+    room = ctypes.create_string_buffer(12)
+    return library.meskelow_write(*[None, 0] * 5, room, len(room)).length == len(room)
 
 
 @functools.lru_cache(maxsize=None)
@@ -500,10 +521,10 @@ def _id(value: SupportsIndex) -> int:
     return identity
 
 
-def _set_of(draft: Draft) -> int:
-    """The set, if a byte has it and the recording has no other last byte than 0; else 255, which is refused as such a recording is."""
-    which, last = operator.index(draft.set), operator.index(getattr(draft, "last", 0))
-    return which if 0 <= which <= 255 and last == 0 else 255
+def _byte(value: SupportsIndex) -> int:
+    """A set or an edition, if a byte has it; else 255, which is refused as well."""
+    number = operator.index(value)
+    return number if 0 <= number <= 255 else 255
 
 
 def _centimetres(value: SupportsIndex) -> int:

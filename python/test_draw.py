@@ -24,10 +24,11 @@ import meskelow
 ROOT = pathlib.Path(__file__).resolve().parent.parent
 EXAMPLES = ROOT / "examples"
 PYTHON = sys.argv[1:] or [sys.executable]
-NAMES = ("night", "clean", "leak", "old", "neighbours")
+NAMES = ("night", "clean", "leak", "old", "neighbours", "editions", "sums")
 SVG = "{http://www.w3.org/2000/svg}"
 OLD = meskelow.FORMERLY_HELD_BACK
 SETS = {meskelow.TRAINING: ("training", "#0072b2"), meskelow.TEST: ("test", "#f0a500"), OLD: ("formerly held back (training)", "#b3d4ea")}
+SLIVER = "#a0286e"
 NUMBER = re.compile(r"-?(?:[0-9]+(?:\.[0-9]+)?|\.[0-9]+)")
 
 V = [(0, 0), (400, 0), (0, 400)]
@@ -39,10 +40,12 @@ def example(name):
 
 
 def file_of(*recordings):
-    """The file with these recordings: id, set, triangles. The set of old files is put in afterwards, as nothing is written with it."""
-    file = bytearray(meskelow.write(types.SimpleNamespace(id=i, set=which % OLD, triangles=own) for i, which, own in recordings))
+    """The file with these recordings: id, set, triangles, and an edition if it is not the first. The set of old files is put in
+    afterwards, as nothing is written with it."""
+    drafts = (types.SimpleNamespace(id=i, set=which % OLD, triangles=own, last=sum(last)) for i, which, own, *last in recordings)
+    file = bytearray(meskelow.write(drafts))
     table = int.from_bytes(file[-12:-8], "little")
-    file[table + 10 : -12 : 12] = bytes(which for _, which, _ in recordings)
+    file[table + 10 : -12 : 12] = bytes(recording[1] for recording in recordings)
     return bytes(file)
 
 
@@ -68,6 +71,18 @@ def crossings(pairs, seed):
     return file_of(*recordings)
 
 
+def slivers_in(recordings, found):
+    """The test and training recordings that overlap and have no line, by all their triangle pairs."""
+    told = {(leak.test, leak.train) for leak in found.leaks}
+    tests = [r for r in recordings if r.set == meskelow.TEST and r.last == meskelow.EDITION_2]
+    pairs = [(test, train) for test in tests for train in recordings if train.set != meskelow.TEST and (test.id, train.id) not in told]
+
+    def overlap(test, train):
+        return any(meskelow.decide(u, v).kind is meskelow.Kind.OVERLAPPING for u in test.triangles for v in train.triangles)
+
+    return [(test.id, train.id) for test, train in pairs if overlap(test, train)]
+
+
 def soup(count, seed):
     """Triangles anywhere."""
     source = random.Random(seed)
@@ -83,6 +98,7 @@ def made():
     """Files by their names, with what a picture may stumble over."""
     corner = [(FAR, FAR), (FAR - 1, FAR), (FAR, FAR - 1)]
     tiny = soup(1364, 5)
+    beside = [(399, 0), (400, 400), (799, 400)]  # of V it has a corner, at (399, 0)
     return {
         "nothing": file_of(),
         "one centimetre": file_of((5, 1, [[(7, 7), (8, 7), (7, 8)]])),
@@ -99,6 +115,14 @@ def made():
         "formerly held back": file_of((1, OLD, [V])),
         "a leak with what was held back": file_of((1, OLD, [V]), (2, 1, [V]), (3, 0, [V])),
         "training": file_of((1, 0, [V]), (2, 0, [V])),
+        "beside": file_of((1, 0, [V]), (2, 1, [beside], 1)),
+        "beside what was held back": file_of((1, OLD, [V]), (2, 1, [beside], 1)),
+        "beside one and on another": file_of((1, 0, [V]), (2, 1, [beside], 1), (3, 0, [beside])),
+        "beside, with a neighbour": file_of((1, 0, [V]), (2, 1, [beside], 1), (4, 0, [[(400, 400), (799, 400), (799, 800)]])),
+        "beside, at both ends": file_of(*((i, i % 2, strip(19990 * i, 0, 500, 0, 40, 50), i % 2) for i in range(3))),
+        "beside, by edition 1": file_of((1, 0, [V]), (2, 1, [beside])),
+        "all or nothing": file_of((1, 0, [V]), (2, 1, [V], 1), (3, 1, [[(x + 900, y) for x, y in V]], 1)),
+        "64 beside each other": file_of(*((i, i % 2, strip(-950000 + 29900 * i, 0, 7500, 0, 4, 4000), i % 2) for i in range(64))),
         "twice": file_of((1, 0, strip(0, 0, 500, 0, 40, 50)), (2, 1, [t for x in (2000, 17000) for t in strip(x, -1000, 0, 200, 10, 20)])),
     }
 
@@ -231,8 +255,9 @@ class Pictures(unittest.TestCase):
             self.assertIn("no recordings", read.texts)
         if found.leaks:
             self.assertTrue(sentence.startswith(f"{len(found.leaks)} leak"))
-            (entry,) = [line for line in read.texts if "overlap of test and training" in line]
-            self.assertTrue(entry.endswith(f": {len(found.leaks)} leak{'s' * (len(found.leaks) > 1)}"))
+        entries = [line for line in read.texts if "overlap of test and training" in line]
+        words = f": {len(found.leaks)} leak{'s' * (len(found.leaks) > 1)}"
+        self.assertEqual([entry.endswith(words) for entry in entries], [True] if found.leaks else [])
 
     def test_words(self):
         for name, words in [
@@ -241,6 +266,12 @@ class Pictures(unittest.TestCase):
             ("neighbours", "There are no leaks: no test recording overlaps a training recording. 1 pair only touches."),
             ("leak", "1 leak: a test recording overlaps a training recording. 0 more pairs only touch."),
             ("night", "5 leaks: pairs of a test and a training recording that overlap. 7 more pairs only touch."),
+            ("editions", "2 leaks, and 1 sliver that edition 2 allows. 1 more pair only touches."),
+            ("sums", "1 leak, and 1 sliver that edition 2 allows. 0 more pairs only touch."),
+            ("beside", "There are no leaks, and 1 sliver that edition 2 allows. 0 more pairs only touch."),
+            ("beside, with a neighbour", "There are no leaks, and 1 sliver that edition 2 allows. 1 more pair only touches."),
+            ("64 beside each other", "There are no leaks, and 63 slivers that edition 2 allows. 0 more pairs only touch."),
+            ("beside, by edition 1", "1 leak: a test recording overlaps a training recording. 0 more pairs only touch."),
         ]:
             self.assertIn(words, self.read[name].texts)
 
@@ -328,24 +359,51 @@ class Pictures(unittest.TestCase):
 
     @of_each
     def test_overlaps(self, read, recordings, found):
-        """Each test recording of a leak is cut to the training recordings that it overlaps."""
+        """Each test recording of a leak, or of a sliver, is cut to the training recordings that it overlaps. Leaks are black, and come
+        later."""
         cut = {}
         for clip in read.root.iter(f"{SVG}clipPath"):
             cut[clip.get("id")] = [use.get("href") for use in clip]
         expected = {}
-        for leak in found.leaks:
-            expected.setdefault(f"c{leak.test}", []).append(f"#r{leak.train}")
+        for letter, pairs in [("s", slivers_in(recordings, found)), ("c", [leak[:2] for leak in found.leaks])]:
+            for test, train in pairs:
+                expected.setdefault(f"{letter}{test}", []).append(f"#r{train}")
         self.assertEqual(cut, expected)
-        black = [(e.get("href"), e.get("clip-path")) for e in read.root.iter(f"{SVG}use") if e.get("clip-path")]
-        self.assertEqual(black, [(f"#r{name[1:]}", f"url(#{name})") for name in expected])
+        shown = []
+        for group in read.root.iter(f"{SVG}g"):
+            shown += [(group.get("fill"), use.get("href"), use.get("clip-path")) for use in group if use.get("clip-path")]
+        colours = {"s": SLIVER, "c": "#000"}
+        self.assertEqual(shown, [(colours[name[0]], f"#r{name[1:]}", f"url(#{name})") for name in expected])
+
+    @of_each
+    def test_slivers(self, read, recordings, found):
+        """Their colour, their words and the broken line are there exactly if there are any; and it is written which they are."""
+        slivers = slivers_in(recordings, found)
+        words = f"{len(slivers)} sliver{'s' * (len(slivers) > 1)}"
+        legend = [line for line in read.texts if line.startswith("overlap that edition 2 allows")]
+        self.assertEqual(legend, [f"overlap that edition 2 allows, in a broken line: {words}"] if slivers else [])
+        self.assertEqual(f", and {words} that edition 2 allows." in read.texts[1], slivers != [])
+        self.assertEqual((SLIVER in read.svg, "sliver" in read.svg, 'id="slivers"' in read.svg), (slivers != [],) * 3)
+        if slivers:
+            (line,) = [group for group in read.root.iter(f"{SVG}g") if any(inner.get("id") == "slivers" for inner in group)]
+            self.assertEqual((line.get("stroke"), line.get("stroke-dasharray")), (SLIVER, "5 3"))
+        desc = list(read.root)[1].text.split(" The leak list:")[0]
+        told = re.findall(" test ([0-9]+) and train ([0-9]+)[,.]", desc)
+        self.assertEqual([(int(test), int(train)) for test, train in told], slivers)
+        count = sum(r.last == meskelow.EDITION_2 for r in recordings)
+        self.assertEqual(re.findall(" By edition 2: ([0-9]+) recordings?[.]", desc), [str(count)] if count else [])
 
     def test_marks(self):
         """There is a line around what strips share; places far from each other have one each."""
         for name, read in self.read.items():
             self.assertEqual('id="marks"' in read.svg, meskelow.leaks(self.files[name]).leaks != ())
-        for name, count in [("night", 4), ("leak", 1), ("twice", 2), ("a corner and a leak", 1), ("64 at one place", 1)]:
+        leaking = [("night", 4), ("leak", 1), ("twice", 2), ("a corner and a leak", 1), ("64 at one place", 1), ("editions", 2), ("sums", 1)]
+        for name, count in leaking:
             with self.subTest(name=name):
                 self.assertEqual(len(list(self.read[name].element("marks"))), count)
+        for name, count in [("beside", 1), ("beside, at both ends", 2), ("64 beside each other", 63), ("editions", 1), ("sums", 1)]:
+            with self.subTest(name=name):
+                self.assertEqual(len(list(self.read[name].element("slivers"))), count)
 
     def test_sizes(self):
         """Small enough for a page, with all triangles that a file can have."""
@@ -411,16 +469,28 @@ class Parts(unittest.TestCase):
 
     def test_shared_parts(self):
         """Where there are not very many all are found, as many as the list has; and of each leak one at least."""
-        for file in (example("night"), example("leak"), crossings(32, 3)):
+        for file in (example("night"), example("leak"), example("editions"), crossings(32, 3)):
             recordings, found = list(meskelow.recordings(file)), meskelow.leaks(file)
-            shared = draw.shared_parts(recordings, found, draw.chart_of(recordings, 0))
+            shared = draw.shared_parts(recordings, found.leaks, draw.chart_of(recordings, 0))
             for leak in found.leaks:
                 self.assertEqual(sum((part.test, part.train) == (leak.test, leak.train) for part in shared), leak.pairs)
         for file in (file_of((1, 0, [V] * 1300), (2, 1, [V] * 1300)), file_of(*((i, i % 2, [V] * 40) for i in range(64)))):
             recordings, found = list(meskelow.recordings(file)), meskelow.leaks(file)
-            shared = draw.shared_parts(recordings, found, draw.chart_of(recordings, 0))
+            shared = draw.shared_parts(recordings, found.leaks, draw.chart_of(recordings, 0))
             self.assertEqual({(part.test, part.train) for part in shared}, {(leak.test, leak.train) for leak in found.leaks})
             self.assertLess(len(shared), 2000)
+
+
+    def test_slivers_of(self):
+        """With the number of triangle pairs, in the list's order; whatever lends the bytes, which stay as they are."""
+        file = bytearray(file_of((1, 0, [V]), (2, 1, [V, V], 1), (3, OLD, [V]), (4, 1, [V]), (5, 1, [V, [(x + 9, y) for x, y in V]], 1)))
+        self.assertEqual(draw.slivers_of(file, meskelow.leaks(file)), [])
+        sums = example("sums")
+        for lent in (sums, bytearray(sums), memoryview(sums), memoryview(sums).cast("I")):
+            self.assertEqual(draw.slivers_of(lent, meskelow.leaks(lent)), [(9, 8, 3)])
+            self.assertEqual(bytes(lent), sums)
+        self.assertEqual(draw.slivers_of(example("editions"), meskelow.leaks(example("editions"))), [(240925002, 240925001, 3)])
+        self.assertEqual(draw.slivers_of(file_of(), meskelow.leaks(file_of())), [])
 
 
 class Command(unittest.TestCase):

@@ -8,7 +8,9 @@ import ctypes
 import decimal
 import fractions
 import functools
+import itertools
 import math
+import operator
 import pathlib
 import pickle
 import random
@@ -16,6 +18,7 @@ import struct
 import threading
 import types
 import unittest
+import unittest.mock
 
 import meskelow
 from meskelow import CornerOfV, Crossing, Kind, VertexOfU
@@ -40,6 +43,16 @@ FLAT = [(0, 0), (1, 1), (2, 2)]
 
 # Every y of the second is below every y of the first; by rounding they have a ring, with an area of 2^-33.
 BEYOND = [(327628, 2), (-335623, 719289), (-969092, 2)], [(-778994, -314945), (-940499, -380241), (0, 0)]
+
+# The first has an area of 60. Each of the others cuts its corner off, (0, 0), (w/5, 0), (0, 1), for w of 1, 2 and 3: 0.1, 0.2 and 0.3.
+SIXTY = [(0, 0), (8, 0), (0, 15)]
+CUTS = [[(-w, 6), (w, -4), (-w, -4)] for w in (1, 2, 3)]
+
+
+def far_off(size):
+    """A triangle far from all others, with half this area."""
+    return [(1000, 1000), (1000 + size, 1000), (1000, 1001)]
+
 
 # 84 bytes: training recording 7 has V, test recording 9 has D's U.
 LEAK = bytes.fromhex(
@@ -68,10 +81,10 @@ def changed(place, byte):
 
 
 def footprint(*recordings):
-    """The bytes of a footprint file with these recordings: id, set, triangles."""
+    """The bytes of a footprint file with these recordings: id, set, triangles, and a last byte if it is not 0."""
     triangles = table = b""
-    for identity, which, own in recordings:
-        table += struct.pack("<IIHBB", identity, len(triangles), len(own), which, 0)
+    for identity, which, own, *last in recordings:
+        table += struct.pack("<IIHBB", identity, len(triangles), len(own), which, *last or [0])
         triangles += b"".join(struct.pack("<6i", *(c for vertex in triangle for c in vertex)) for triangle in own)
     return triangles + table + struct.pack("<III", len(triangles), len(recordings), len(triangles) + len(table) + 12)
 
@@ -234,6 +247,11 @@ def cross(p, q):
 
 def less(p, q):
     return p[0] - q[0], p[1] - q[1]
+
+
+def area_of(triangle):
+    """Exact, for whole numbers that are not large; with a sign."""
+    return cross(less(triangle[1], triangle[0]), less(triangle[2], triangle[0])) / 2
 
 
 def parameters(vertex, v):
@@ -574,6 +592,11 @@ class Files(Case):
             (bytes(65536), 12, 0),
             (changed(76, 3), 13, 72),
             (changed(70, 3), 14, 60),
+            (changed(71, 2), 14, 60),
+            (changed(71, 129), 14, 60),
+            (changed(71, 255), 14, 60),
+            (changed(59, 1), 14, 48),
+            (footprint((7, 2, [V], 1), (9, 1, [D])), 14, 24 * 2),
             (changed(68, 2), 15, 48),
             (changed(60, 7), 16, 60),
             (changed(27, 0x80), 17, 24),
@@ -591,6 +614,13 @@ class Files(Case):
         self.assertEqual(list(meskelow.recordings(LEAK)), [first, second])
         self.assertEqual(next(meskelow.recordings(LEAK)), first)
         self.assertEqual(list(meskelow.recordings(EMPTY)), [])
+
+    def test_editions_of_recordings(self):
+        self.assertEqual((meskelow.EDITION_1, meskelow.EDITION_2), (0, 1))
+        self.assertEqual([r.last for r in meskelow.recordings(LEAK)], [meskelow.EDITION_1] * 2)
+        found = list(meskelow.recordings(changed(71, 1)))
+        self.assertEqual([r.last for r in found], [meskelow.EDITION_1, meskelow.EDITION_2])
+        self.assertEqual([r._replace(last=0) for r in found], list(meskelow.recordings(LEAK)))
 
     def test_recordings_are_refused_at_the_call(self):
         with self.refused(12, 0):
@@ -693,6 +723,94 @@ class Files(Case):
         self.assertEqual(moved, LEAK)
         self.assertEqual(meskelow.leaks(old), (((9, 7, 1),), LIST.replace("back 0", "back 1"), 0, 1, 1))
 
+    def by_either(self, recordings, first, second):
+        """The leaks by both editions, of a file with one test recording, which is 9: as they are expected, and all else the same."""
+        with self.subTest(recordings=recordings):
+            lists = []
+            for last, leaks in [(meskelow.EDITION_1, first), (meskelow.EDITION_2, second)]:
+                got = meskelow.leaks(footprint(*((*r, last) if r[1] == meskelow.TEST else r for r in recordings)))
+                lines = "".join(f"test 9 train {train} pairs {pairs}\n" for train, pairs in leaks)
+                self.assertEqual(got.leaks, tuple((9, train, pairs) for train, pairs in leaks))
+                self.assertEqual(got.text, f"leaks {len(leaks)}\n{lines}{closing(got.touching, got.formerly_held_back)}")
+                lists.append(got)
+            self.assertEqual(lists[0][2:], lists[1][2:])
+            return lists[1]
+
+    def test_the_order_of_a_sum(self):
+        """README's example: by edition 2 it is a leak unless 0.1 comes last. One hundredth of 60 is 0.6, which three tenths, two and
+        one add up to exactly; 0.1 and 0.2 make 0.30000000000000004, and 0.1, 0.3 and 0.2 the next number above 0.6."""
+        self.assertEqual([meskelow.decide(SIXTY, cut) for cut in CUTS], [(Kind.OVERLAPPING, area) for area in (0.1, 0.2, 0.3)])
+        self.assertEqual((100 * (0.1 + 0.2 + 0.3), 100 * (0.3 + 0.2 + 0.1)), (60.00000000000001, 60))
+        for order in itertools.permutations(range(3)):
+            recordings = [(7, meskelow.TRAINING, [CUTS[i] for i in order]), (9, meskelow.TEST, [SIXTY])]
+            got = self.by_either(recordings, [(7, 3)], [] if order[2] == 0 else [(7, 3)])
+            self.assertEqual((got.touching, got.tested), (0, 3))
+
+    def test_slivers(self):
+        """V shares 1 with D, which has 8: what is far off makes up the rest of the own area. More than a hundredth is a leak."""
+        train, test, old = meskelow.TRAINING, meskelow.TEST, meskelow.FORMERLY_HELD_BACK
+        own = [D, far_off(184)]  # 8 + 92
+        for triangles, leaks in [
+            (own, []),  # one per cent
+            ([D, far_off(183)], [(7, 1)]),
+            ([D, far_off(185)], []),
+            (own[::-1], []),
+            ([D[::-1], far_off(184)[::-1]], []),  # either way round
+            ([D, far_off(183)[::-1]], [(7, 1)]),
+            ([D], [(7, 1)]),
+        ]:
+            self.by_either([(7, train, [V]), (9, test, triangles)], [(7, 1)], leaks)
+        for recordings, first, second in [
+            ([(7, train, [CUTS[0]]), (9, test, [[(0, 0), (4, 0), (0, 5)]])], [(7, 1)], []),  # 0.1 of 10
+            ([(7, train, [V, V]), (9, test, own)], [(7, 2)], [(7, 2)]),
+            ([(7, train, [V]), (9, test, own), (5, train, [V])], [(7, 1), (5, 1)], []),  # each by itself
+            ([(7, train, [V]), (9, test, own), (5, train, [V, V]), (3, old, [V])], [(7, 1), (5, 2), (3, 1)], [(5, 2)]),
+            ([(7, old, [V]), (9, test, [D])], [(7, 1)], [(7, 1)]),
+            ([(7, train, [V]), (9, test, [E])], [], []),
+            ([(7, train, [BEYOND[1]]), (9, test, [BEYOND[0]])], [], []),
+        ]:
+            self.by_either(recordings, first, second)
+
+    def test_a_sliver_is_not_touching(self):
+        """Nor are its recordings, if other triangles of theirs touch; and what only touches does so by either edition."""
+        train, test = meskelow.TRAINING, meskelow.TEST
+        own = [D, far_off(184)]
+        for recordings, first, second, touching, tested in [
+            ([(7, train, [V]), (9, test, own)], [(7, 1)], [], 0, 1),
+            ([(7, train, [V]), (9, test, [F, *own, F])], [(7, 1)], [], 0, 3),
+            ([(7, train, [V]), (9, test, [F])], [], [], 1, 1),
+            ([(7, train, [V]), (9, test, [F, F]), (5, train, [V])], [], [], 2, 4),
+        ]:
+            got = self.by_either(recordings, first, second)
+            self.assertEqual((got.touching, got.tested), (touching, tested))
+
+    def test_both_editions_in_one_file(self):
+        train, test, own = meskelow.TRAINING, meskelow.TEST, [D, far_off(184)]
+        second = meskelow.EDITION_2
+        recordings = [(1, test, own, second), (7, train, [V]), (2, test, own), (3, test, [D], second), (4, test, [F], second)]
+        expected = f"leaks 2\ntest 2 train 7 pairs 1\ntest 3 train 7 pairs 1\n{closing(1)}"
+        self.assertEqual(meskelow.leaks(footprint(*recordings)), (((2, 7, 1), (3, 7, 1)), expected, 1, 4, 0))
+
+    def test_sums_at_the_border(self):
+        """Of a test triangle tenths are cut off that add up to a hundredth of it, but for what rounding makes of their sum."""
+        source = random.Random(8)
+        found = {(as_stored, ascending): 0 for as_stored in (True, False) for ascending in (True, False)}
+        for _ in range(400):
+            widths = [source.randint(1, 9) for _ in range(source.randint(2, 12))]
+            test = [[(0, 0), (8, 0), (0, (sum(widths) + 1) // 2 * 5)]]
+            if sum(widths) % 2 == 1:
+                widths.append(1)
+            if source.randint(0, 1) == 1:  # twice the triangle, in two parts, and so twice the sum
+                test.append([*test[0][1:], test[0][0]])
+            train = [[(-w, 6), (w, -4), (-w, -4)] for w in widths]
+            areas = [meskelow.decide(u, v).area for u in test for v in train]
+            own = sum(abs(area_of(u)) for u in test)
+            as_stored, ascending = (100 * functools.reduce(operator.add, row, 0.0) > own for row in (areas, sorted(areas)))
+            pairs = len(areas)
+            self.by_either([(7, 0, train), (9, 1, test)], [(7, pairs)], [(7, pairs)] if as_stored else [])
+            found[as_stored, ascending] += 1
+        self.assertGreater(min(found.values()), 10)
+
     def test_tested(self):
         """Pairs whose boxes share a point, of test and training recordings: each, also once a pair leaks, and no other."""
         train, test, old = meskelow.TRAINING, meskelow.TEST, meskelow.FORMERLY_HELD_BACK
@@ -711,6 +829,17 @@ class Files(Case):
         """Two strips one behind the other, of which one is a test recording."""
         got = meskelow.leaks((EXAMPLES / "neighbours.footprint").read_bytes())
         self.assertEqual(got, ((), neither(1), 1, 3, 0))
+
+    def test_examples_of_both_editions(self):
+        """A sliver of edition 2, the same of edition 1, and a leak of edition 2; and README's example, in one order and the other."""
+        leaks = (240925005, 240925004, 3), (240925007, 240925006, 3)
+        text = f"leaks 2\ntest 240925005 train 240925004 pairs 3\ntest 240925007 train 240925006 pairs 3\n{closing(1)}"
+        editions = (EXAMPLES / "editions.footprint").read_bytes()
+        self.assertEqual(meskelow.leaks(editions), (leaks, text, 1, 16, 0))
+        self.assertEqual([r.last for r in meskelow.recordings(editions)], [0, 1, 0, 0, 0, 0, 1])
+        sums = footprint((7, 0, CUTS), (8, 0, CUTS[::-1]), (9, 1, [SIXTY], meskelow.EDITION_2))
+        self.assertEqual((EXAMPLES / "sums.footprint").read_bytes(), sums)
+        self.assertEqual(meskelow.leaks(sums), (((9, 7, 3),), f"leaks 1\ntest 9 train 7 pairs 3\n{closing(0)}", 0, 6, 0))
 
     def test_night(self):
         """Its list comes from the second program."""
@@ -786,7 +915,7 @@ class Writing(Case):
         self.assertEqual([r.first for r in meskelow.recordings(file)], [0, 7200, 7224, 64824])
 
     def test_the_very_bytes(self):
-        for name in ("leak", "night", "clean", "neighbours"):
+        for name in ("leak", "night", "clean", "neighbours", "editions", "sums"):
             file = (EXAMPLES / f"{name}.footprint").read_bytes()
             with self.subTest(name=name):
                 self.assertEqual(meskelow.write(meskelow.recordings(file)), file)
@@ -871,14 +1000,66 @@ class Writing(Case):
             with self.refused(14, 0):
                 meskelow.write([own(7, which, [V])])
 
-    def test_last(self):
-        self.assertEqual(meskelow.write([own(7, 0, [V], last=0), own(9, 1, [D], last=0)]), LEAK)
-        for last in (1, 2, 255, 256, 2**64, -1, -256):
+    def test_editions(self):
+        """Edition 1 if none is named; edition 2 of test recordings only."""
+        first, second = meskelow.EDITION_1, meskelow.EDITION_2
+        self.assertEqual(meskelow.write([own(7, 0, [V], last=first), own(9, 1, [D], last=first)]), LEAK)
+        for last in (second, True, Whole(1)):
+            file = meskelow.write([own(7, 0, [V]), own(9, 1, [D], last=last)])
+            self.assertEqual(file, changed(71, 1))
+            self.assertEqual([(r.id, r.set, r.last) for r in meskelow.recordings(file)], [(7, 0, first), (9, 1, second)])
+            self.assertEqual(meskelow.write(meskelow.recordings(file)), file)
+        allowing = meskelow.write(r._replace(last=second) if r.set == meskelow.TEST else r for r in meskelow.recordings(LEAK))
+        self.assertEqual(allowing, changed(71, 1))
+        for which in (meskelow.TRAINING, meskelow.FORMERLY_HELD_BACK, 3, 255):
+            with self.refused(14, 0):
+                meskelow.write([own(7, which, [V], last=second)])
+        for last in (2, 3, 128, 129, 255, 256, 257, 2**32 + 1, 2**64, 2**64 + 1, 10**5000, -1, -255, -256, -(2**64) + 1):
             for which in (0, 1, 2):
                 with self.refused(14, 0):
                     meskelow.write([own(7, which, [V], last=last)])
-        with self.refused(16, 0):  # in its turn
-            meskelow.write([own(7, 0, [V]), own(7, 1, [D]), own(9, 1, [D], last=1)])
+        for refused in (own(9, 0, [D], last=1), own(9, 1, [D], last=2)):  # in its turn
+            with self.refused(16, 0):
+                meskelow.write([own(7, 0, [V]), own(7, 1, [D], last=1), refused])
+            with self.refused(14, 0):
+                meskelow.write([own(9, 0, [V]), refused])
+
+    def test_lists(self):
+        """The library's five lists, each behind the other with its length. One that is shorter is 15, and NULL is an empty list."""
+        write = meskelow._library().meskelow_write
+        ids, counts, numbers = (ctypes.c_uint32 * 2)(7, 9), (ctypes.c_uint32 * 2)(1, 1), (ctypes.c_int32 * 12)(*(c for vertex in V + D for c in vertex))
+        sets, lasts = (ctypes.c_uint8 * 2)(meskelow.TRAINING, meskelow.TEST), (ctypes.c_uint8 * 2)(meskelow.EDITION_1, meskelow.EDITION_2)
+        lists = [ids, counts, sets, lasts, numbers]
+
+        def written(*lengths):
+            room = ctypes.create_string_buffer(b"#" * 100, 100)
+            words = (word for pair in zip(lists, lengths) for word in (pair if pair[1] else (None, 0)))
+            got = write(*words, room, 100)
+            return got.number, got.place, room.raw[: got.length], room.raw[got.length :]
+
+        self.assertEqual(written(2, 2, 2, 2, 12), (0, 0, changed(71, 1), b"#" * 16))
+        self.assertEqual(written(0, 0, 0, 0, 0), (0, 0, EMPTY, b"#" * 88))
+        for short in range(5):
+            for length in (0, 1):
+                lengths = [length if i == short else len(own) for i, own in enumerate(lists)]
+                self.assertEqual(written(*lengths), (15, 0, b"", b"#" * 100))
+
+    def test_a_test_that_becomes_training(self):
+        _, test = meskelow.recordings(changed(71, 1))
+        with self.refused(14, 0):
+            meskelow.write([test._replace(set=meskelow.TRAINING)])
+        self.assertEqual(meskelow.write([test._replace(set=meskelow.TRAINING, last=meskelow.EDITION_1)]), footprint((9, 0, [D])))
+
+    def test_editions_come_back(self):
+        """Each byte of the table as it was given, whatever stands beside it."""
+        source = random.Random(81)
+        for _ in range(200):
+            sets = [source.randint(0, 1) for _ in range(source.randint(1, 64))]
+            drafts = [(i, which, [V, D, F][: source.randint(1, 3)], which & source.randint(0, 1)) for i, which in enumerate(sets)]
+            file = meskelow.write(own(*draft[:3], last=draft[3]) for draft in drafts)
+            self.assertEqual(file, footprint(*drafts))
+            self.assertEqual([(r.set, r.last) for r in meskelow.recordings(file)], [(which, last) for _, which, _, last in drafts])
+            self.assertEqual(meskelow.write(meskelow.recordings(file)), file)
 
     def test_coordinates(self):
         """Those at the ends of the range are written; none beyond it is cut to one within."""
@@ -1055,13 +1236,13 @@ class Texts(Case):
                     self.assertEqual(got, f"GEOMETRYCOLLECTION (POLYGON (({', '.join(points)})))")
 
     def test_the_recording_with_the_id(self):
-        """Not the one at a place; of any set; also the smallest and the largest id."""
+        """Not the one at a place; of any set and edition; also the smallest and the largest id."""
         texts = {
             1: "GEOMETRYCOLLECTION (POLYGON ((0.00 0.00, 0.04 0.00, 0.00 0.04, 0.00 0.00)))",
             0: "GEOMETRYCOLLECTION (POLYGON ((0.01 0.01, -0.03 0.01, 0.01 -0.03, 0.01 0.01)))",
             2**32 - 1: "GEOMETRYCOLLECTION (POLYGON ((0.00 0.00, 0.04 0.00, 0.00 -0.04, 0.00 0.00)))",
         }
-        file = footprint((1, 0, [V]), (0, 1, [D]), (2**32 - 1, 2, [F]))
+        file = footprint((1, 0, [V]), (0, 1, [D], 1), (2**32 - 1, 2, [F]))
         for identity, text in texts.items():
             self.assertEqual(meskelow.wkt(file, identity), text)
         for identity in (2, 3, 256, 257, 2**31, 2**31 + 1, 2**32 - 2):
@@ -1077,6 +1258,8 @@ class Texts(Case):
             (bytes(65536), 12, 0),
             (changed(76, 3), 13, 72),
             (changed(70, 3), 14, 60),
+            (changed(59, 1), 14, 48),
+            (changed(71, 2), 14, 60),
             (changed(68, 2), 15, 48),
             (changed(60, 7), 16, 60),
             (changed(27, 0x80), 17, 24),
@@ -1145,7 +1328,7 @@ class Texts(Case):
         self.assertEqual((got.number, got.place, got.length), (20, 0, 0))
 
     def test_examples(self):
-        for name in ("leak", "night", "clean", "neighbours"):
+        for name in ("leak", "night", "clean", "neighbours", "editions", "sums"):
             file = (EXAMPLES / f"{name}.footprint").read_bytes()
             for recording in meskelow.recordings(file):
                 self.assertEqual(meskelow.wkt(file, recording.id), text_of(recording.triangles))
@@ -1341,6 +1524,20 @@ class Errors(Case):
         self.put("ARCHIVE", pathlib.Path("/nowhere/libmeskelow.a"))
         self.put("LIBRARY", pathlib.Path(__file__))
         self.nothing_works("cannot load ")
+
+    def test_a_library_without_editions(self):
+        """Its writer takes the numbers for the room. There are none, so that it has to refuse."""
+        asked = []
+
+        def write(*words):
+            asked.append(words)
+            return meskelow._Written(19, 0, 0)
+
+        functions = {**{name: lambda *words: self.fail() for name in meskelow._FUNCTIONS}, "meskelow_write": write}
+        self.put("LIBRARY", meskelow.LIBRARY)  # so that it is loaded again
+        with unittest.mock.patch.object(ctypes, "CDLL", lambda path: types.SimpleNamespace(**functions)):
+            self.nothing_works("is of a version before 0.8")
+        self.assertEqual({words[:10] for words in asked}, {(None, 0) * 5})
 
     def test_other_lists(self):
         line = "test 9 train 7 pairs 1\n"

@@ -142,7 +142,9 @@ def made():
                 while not has_area(triangle):
                     triangle = [(draw(), draw()) for _ in range(3)]
                 own.append(triangle)
-            drafts.append(types.SimpleNamespace(id=identity, set=source.randint(0, 2), triangles=own))
+            which = source.choice((meskelow.TRAINING, meskelow.TEST))
+            last = source.choice((meskelow.EDITION_1, meskelow.EDITION_2)) if which == meskelow.TEST else meskelow.EDITION_1
+            drafts.append(types.SimpleNamespace(id=identity, set=which, last=last, triangles=own))
         yield f"made {n + 1}", meskelow.write(drafts)
 
 

@@ -30,7 +30,7 @@ impl Class<Draft> {
 
 const HUNDREDS: [usize; 4] = [80, 100, 130, 200];
 
-pub const CLASSES: [Class<Draft>; 41] = [
+pub const CLASSES: [Class<Draft>; 49] = [
     Class("no recordings", 16, |_| Draft::default()),
     Class("one recording", 20, |r| files::good::one(r).into()),
     Class("few recordings", 30, |r| files::good::few(r).into()),
@@ -47,7 +47,11 @@ pub const CLASSES: [Class<Draft>; 41] = [
     Class("coordinates at the ends", 14, |r| files::good::of_shape(r, shapes::at_the_ends).into()),
     Class("nearly flat triangles", 14, |r| files::good::of_shape(r, shapes::thin).into()),
     Class("crosses that are zero to 32 bits", 14, |r| files::good::of_shape(r, shapes::vanishing).into()),
-    Class("lists of different lengths", 150, |r| planted::one(r, s::lengths)),
+    Class("tests of the second edition", 110, good::of_the_second_edition),
+    Class("65 tests or more of the second edition", 30, |r| {
+        good::in_the_second_edition(good::of_recordings(r, &[65, 65, 66, 80]), r)
+    }),
+    Class("lists of different lengths", 420, |r| planted::one(r, s::lengths)),
     Class("a triangle broken off", 90, |r| planted::one(r, s::broken_off)),
     Class("no triangles", 30, |r| planted::one(r, s::no_triangles)),
     Class("set over 2", 40, |r| planted::one(r, s::set)),
@@ -57,6 +61,18 @@ pub const CLASSES: [Class<Draft>; 41] = [
     }),
     Class("set 2 and an id seen beside it", 40, |r| planted::one(r, s::held_back_beside_id)),
     Class("set 2 and another fault", 100, planted::held_back_and_another),
+    Class("last byte over 1", 50, |r| planted::one(r, s::last_byte)),
+    Class("last byte 1 of no test", 60, |r| planted::one(r, s::edition_of_no_test)),
+    Class("a last byte of one of many entries", 150, |r| {
+        planted::one_of_many(
+            r,
+            &[63, 64, 64, 64, 64, 64, 80, 100, 130],
+            &[s::last_byte, s::edition_of_no_test],
+        )
+    }),
+    Class("a last byte and an id seen beside it", 70, |r| planted::one(r, s::last_byte_beside_id)),
+    Class("a last byte and another fault of its entry", 40, |r| planted::one(r, s::last_byte_and_other_14)),
+    Class("a last byte and another fault", 110, planted::last_byte_and_another),
     Class("id already seen", 40, |r| planted::one(r, s::id)),
     Class("one of 64 entries", 50, |r| planted::one_of_many(r, &[64], &[s::set, s::id, s::id])),
     Class("one of hundreds of entries", 110, |r| {

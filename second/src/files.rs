@@ -3,6 +3,7 @@
 pub mod coverage;
 pub mod damage;
 pub mod draft;
+pub mod editions;
 mod events;
 pub mod faults;
 pub mod good;
@@ -37,7 +38,7 @@ impl Class {
     }
 }
 
-pub const CLASSES: [Class; 41] = [
+pub const CLASSES: [Class; 43] = [
     Class("worked by hand", 8, |r| worked::all().swap_remove(r.below(worked::all().len())).file),
     Class("no recordings", 4, |_| good::none().bytes()),
     Class("one recording", 12, |r| good::one(r).bytes()),
@@ -49,6 +50,7 @@ pub const CLASSES: [Class; 41] = [
     Class("coordinates at the ends", 10, |r| good::of_shape(r, shapes::at_the_ends).bytes()),
     Class("nearly flat triangles", 14, |r| good::of_shape(r, shapes::thin).bytes()),
     Class("crosses that are zero to 32 bits", 14, |r| good::of_shape(r, shapes::vanishing).bytes()),
+    Class("tests of the second edition", 30, |r| good::of_the_second_edition(r).bytes()),
     Class("stored length", 20, |r| planted::one(r, d::stored_length)),
     Class("count of recordings", 30, |r| planted::one(r, d::recordings)),
     Class("more than 64 recordings", 10, planted::too_many),
@@ -57,7 +59,8 @@ pub const CLASSES: [Class; 41] = [
     Class("table and count moved together", 14, |r| planted::one(r, d::table_and_count)),
     Class("no triangles", 30, |r| planted::one(r, d::no_triangles)),
     Class("set over 2", 30, |r| planted::one(r, d::set)),
-    Class("last byte not zero", 30, |r| planted::one(r, d::last_byte)),
+    Class("last byte over 1", 40, |r| planted::one(r, d::last_byte)),
+    Class("last byte 1 of no test", 50, |r| planted::one(r, d::edition_of_no_test)),
     Class("first triangle elsewhere", 40, |r| planted::one(r, d::first)),
     Class("id already seen", 50, |r| planted::one(r, d::id)),
     Class("triangles left over", 24, |r| planted::one(r, d::left_over)),

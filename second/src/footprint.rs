@@ -44,6 +44,7 @@ pub enum Reason {
     NoTriangles,
     Set,
     LastByte,
+    EditionOfNoTest,
     First,
     Id,
     EndOfTriangles,
@@ -60,7 +61,11 @@ impl Reason {
             Reason::Length => 11,
             Reason::StoredLength => 12,
             Reason::TooManyRecordings | Reason::TablePlace => 13,
-            Reason::NoTriangles | Reason::Set | Reason::LastByte | Reason::First => 14,
+            Reason::NoTriangles
+            | Reason::Set
+            | Reason::LastByte
+            | Reason::EditionOfNoTest
+            | Reason::First => 14,
             Reason::EndOfTriangles | Reason::TableOfNone => 15,
             Reason::Id => 16,
             Reason::Range => 17,

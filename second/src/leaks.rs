@@ -1,7 +1,8 @@
 //! A footprint file and lent room go in; the list of test recordings whose triangles overlap those of a
 //! training recording comes out, at the front of the room, how many others touch, how many triangle pairs
-//! were given to the triangle rules, and how many recordings are stored as held back. Everything follows the
-//! rules, pair by pair.
+//! were given to the triangle rules, and how many recordings are stored as held back. A test says itself
+//! whether every overlap is a leak or only more than a sliver of one. Everything follows the rules, pair by
+//! pair.
 
 #[cfg(test)]
 mod worked;
@@ -9,7 +10,7 @@ mod worked;
 use std::fmt::Write;
 
 use crate::decision::{by_the_triangle_rules, Decision};
-use crate::footprint::stored::{triangle, Line, HELD_BACK, TEST, TRAINING, TRIANGLE};
+use crate::footprint::stored::{triangle, Line, HELD_BACK, SECOND_EDITION, TEST, TRAINING, TRIANGLE};
 use crate::footprint::{lines_of, Refused};
 use crate::triangles::VALUES;
 
@@ -34,7 +35,7 @@ pub struct List {
     pub formerly_held_back: u32,
 }
 
-/// A test and a training recording of which triangles overlap, by their ids.
+/// A test and a training recording that leak, by their ids.
 #[derive(Clone, Copy, Debug, PartialEq, Eq)]
 pub struct Leak {
     pub test: u32,
@@ -61,33 +62,86 @@ pub fn is_training(line: &Line) -> bool {
     [TRAINING, HELD_BACK].contains(&line.set)
 }
 
+/// What makes an overlap of a test and a training recording a leak.
+#[derive(Clone, Copy, Debug, PartialEq)]
+pub enum Rule {
+    /// By the first edition it always is one.
+    Any,
+    /// By the second it is one if it is more than a hundredth of this, the test recording's own area.
+    MoreThanASliver(f64),
+}
+
+impl Rule {
+    /// The one that a test recording of a good file goes by.
+    pub fn of(test: &Line, file: &[u8]) -> Rule {
+        if test.last == SECOND_EDITION {
+            Rule::MoreThanASliver(own_area(test.part(file)))
+        } else {
+            Rule::Any
+        }
+    }
+}
+
+/// Of a recording's triangles, whichever way round they are: half of what their crosses add up to.
+pub fn own_area(part: &[u8]) -> f64 {
+    let mut sum = 0.0;
+    for bytes in part.chunks_exact(TRIANGLE) {
+        let e = e_of(triangle(bytes).map(f64::from));
+        sum += if e < 0.0 { -e } else { e };
+    }
+    sum / 2.0
+}
+
+/// The e that the triangle rules have of a test triangle.
+fn e_of([x0, y0, x1, y1, x2, y2]: [f64; 6]) -> f64 {
+    (x1 - x0) * (y2 - y0) - (y1 - y0) * (x2 - x0)
+}
+
 /// Of the triangle pairs of two recordings.
-#[derive(Clone, Copy, Debug, Default, PartialEq, Eq)]
+#[derive(Clone, Copy, Debug, Default, PartialEq)]
 pub struct Counts {
     pub tested: u32,
     pub overlapping: u32,
     pub touching: u32,
+    /// How many of those that overlap do so because the triangle rules refuse them. They have no area.
+    pub refused: u32,
+    /// What the areas of the others that overlap add up to, one after the other.
+    pub area: f64,
 }
 
 impl Counts {
     /// A pair that the triangle rules refuse was given to them; one with far boxes was not, and is apart.
     fn with(self, pair: Option<Decision>) -> Counts {
-        match pair {
-            None => self,
-            Some(pair) => Counts {
-                tested: self.tested + 1,
-                overlapping: self.overlapping + u32::from(pair.overlaps()),
-                touching: self.touching + u32::from(pair.touches()),
-            },
+        let pair = match pair {
+            None => return self,
+            Some(pair) => pair,
+        };
+        let refused = pair.number != 0;
+        let has_area = pair.overlaps() && !refused;
+        Counts {
+            tested: self.tested + 1,
+            overlapping: self.overlapping + u32::from(pair.overlaps()),
+            touching: self.touching + u32::from(pair.touches()),
+            refused: self.refused + u32::from(refused),
+            area: if has_area { self.area + pair.area } else { self.area },
         }
     }
 
-    pub fn leak(self) -> bool {
+    pub fn overlap(self) -> bool {
         self.overlapping > 0
     }
 
+    /// By the rule that the test recording goes by.
+    pub fn leak(self, rule: Rule) -> bool {
+        match rule {
+            Rule::Any => self.overlap(),
+            Rule::MoreThanASliver(own_area) => self.refused > 0 || 100.0 * self.area > own_area,
+        }
+    }
+
+    /// Whatever the rule: an overlap that is no leak is none of these either.
     pub fn only_touch(self) -> bool {
-        self.touching > 0 && self.overlapping == 0
+        self.touching > 0 && !self.overlap()
     }
 }
 
@@ -101,9 +155,10 @@ pub fn whole_list(file: &[u8]) -> Result<Whole, Refused> {
     let lines = lines_of(file)?;
     let (mut leaks, mut touching, mut tested) = (Vec::new(), 0, 0);
     for test in lines.iter().filter(|line| line.set == TEST) {
+        let rule = Rule::of(test, file);
         for training in lines.iter().filter(|line| is_training(line)) {
             let counts = counts_of(test.part(file), training.part(file));
-            if counts.leak() {
+            if counts.leak(rule) {
                 leaks.push(Leak { test: test.id, training: training.id, pairs: counts.overlapping });
             }
             touching += u32::from(counts.only_touch());

@@ -34,6 +34,8 @@ extern "C" {
         counts_len: usize,
         sets: *const u8,
         sets_len: usize,
+        lasts: *const u8,
+        lasts_len: usize,
         numbers: *const i32,
         numbers_len: usize,
         room: *mut u8,
@@ -113,6 +115,16 @@ pub unsafe fn leaks_at(file: *const u8, file_len: usize, room: *mut u8, room_len
 /// Where a list begins, and its length.
 pub type At<T> = (*const T, usize);
 
+/// All that a file is written from, wherever it stands.
+#[derive(Clone, Copy)]
+pub struct Lists {
+    pub ids: At<u32>,
+    pub counts: At<u32>,
+    pub sets: At<u8>,
+    pub lasts: At<u8>,
+    pub numbers: At<i32>,
+}
+
 fn at<T>(list: &[T]) -> At<T> {
     (list.as_ptr(), list.len())
 }
@@ -123,30 +135,35 @@ fn at_or_null<T>(list: &[T]) -> At<T> {
 }
 
 pub fn write(handed: Handed, room: &mut [u8]) -> Written {
-    let Handed { ids, counts, sets, numbers } = handed;
+    let Handed { ids, counts, sets, lasts, numbers } = handed;
+    let lists =
+        Lists { ids: at(ids), counts: at(counts), sets: at(sets), lasts: at(lasts), numbers: at(numbers) };
     // True slices, and the one that is written to overlaps no other.
-    unsafe { write_at(at(ids), at(counts), at(sets), at(numbers), room.as_mut_ptr(), room.len()) }
+    unsafe { write_at(lists, room.as_mut_ptr(), room.len()) }
 }
 
 /// The same with NULL in the place of each list that is empty, and of an empty room.
 pub fn write_with_null(handed: Handed, room: &mut [u8]) -> Written {
-    let Handed { ids, counts, sets, numbers } = handed;
+    let Handed { ids, counts, sets, lasts, numbers } = handed;
     let output = if room.is_empty() { std::ptr::null_mut() } else { room.as_mut_ptr() };
-    let (ids, counts) = (at_or_null(ids), at_or_null(counts));
-    unsafe { write_at(ids, counts, at_or_null(sets), at_or_null(numbers), output, room.len()) }
+    let lists = Lists {
+        ids: at_or_null(ids),
+        counts: at_or_null(counts),
+        sets: at_or_null(sets),
+        lasts: at_or_null(lasts),
+        numbers: at_or_null(numbers),
+    };
+    unsafe { write_at(lists, output, room.len()) }
 }
 
 /// # Safety
 /// As for `leaks_at`, and lists of larger numbers begin where C allows such numbers to stand.
-pub unsafe fn write_at(
-    ids: At<u32>,
-    counts: At<u32>,
-    sets: At<u8>,
-    numbers: At<i32>,
-    room: *mut u8,
-    room_len: usize,
-) -> Written {
-    meskelow_write(ids.0, ids.1, counts.0, counts.1, sets.0, sets.1, numbers.0, numbers.1, room, room_len)
+pub unsafe fn write_at(lists: Lists, room: *mut u8, room_len: usize) -> Written {
+    let Lists { ids, counts, sets, lasts, numbers } = lists;
+    meskelow_write(
+        ids.0, ids.1, counts.0, counts.1, sets.0, sets.1, lasts.0, lasts.1, numbers.0, numbers.1, room,
+        room_len,
+    )
 }
 
 pub fn wkt(file: &[u8], id: u32, room: &mut [u8]) -> Written {

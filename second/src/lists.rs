@@ -1,6 +1,7 @@
 //! The classes of files that a comparison of leak lists draws from.
 
 pub mod coverage;
+pub mod editions;
 mod events;
 mod held_back;
 pub mod largest;
@@ -20,12 +21,13 @@ use crate::footprint::lines_of;
 use crate::footprint::stored::{Line, TEST};
 use crate::leaks::is_training;
 use crate::random::Random;
+use editions::{limits, sums};
 
 /// Good files in the first so many; what is held back among them is so by chance.
 pub const OF_ANY_SETS: usize = 27;
 
-pub const CLASSES: [Class; 31] = [
-    Class("no recordings", 7, |_| good::none().bytes()),
+pub const CLASSES: [Class; 40] = [
+    Class("no recordings", 10, |_| good::none().bytes()),
     Class("worked pairs", 14, scenes::worked),
     Class("few recordings on a small grid", 20, |r| scenes::grid(r, 2, 6, 3)),
     Class("several recordings on a small grid", 12, |r| scenes::grid(r, 9, 20, 1)),
@@ -52,10 +54,19 @@ pub const CLASSES: [Class; 31] = [
     Class("boxes that are all apart", 10, outlines::none_near),
     Class("rows that one triangle leaves", 54, rows::file),
     Class("beyond the tip of a needle", 24, scenes::needle),
-    Class("files that readers are compared with", 100, any_file),
+    Class("files that readers are compared with", 130, any_file),
     Class("others' trainings stored as held back", 60, held_back::among_others),
     Class("held back beside tests and others", 50, held_back::roles),
     Class("64 recordings held back, or all but tests", 32, held_back::crowd),
+    Class("others' tests of the second edition", 110, editions::among_others),
+    Class("slivers, leaks and neighbours of both editions", 90, editions::roles),
+    Class("trainings of a hundredth, or a little more or less", 60, limits::near_a_hundredth),
+    Class("strips that overlap by a hundredth or so", 50, limits::bands),
+    Class("tests that are tiled with trainings", 90, sums::tiled),
+    Class("areas of which the order decides", 50, sums::in_order),
+    Class("areas that no number has", 120, sums::fractions),
+    Class("many small overlaps", 30, sums::many),
+    Class("own areas that are rounded", 34, sums::past_53_bits),
 ];
 
 /// A class by its weight.

@@ -4,7 +4,7 @@
 #[cfg(test)]
 mod worked;
 
-use crate::footprint::stored::{ENTRY, TEST, TRAILER, TRAINING, TRIANGLE};
+use crate::footprint::stored::{ENTRY, FIRST_EDITION, SECOND_EDITION, TEST, TRAILER, TRAINING, TRIANGLE};
 use crate::footprint::{FARTHEST, MOST_BYTES, MOST_RECORDINGS};
 
 /// Numbers of one triangle.
@@ -16,6 +16,8 @@ pub struct Handed<'a> {
     pub ids: &'a [u32],
     pub counts: &'a [u32],
     pub sets: &'a [u8],
+    /// The entries' last bytes.
+    pub lasts: &'a [u8],
     pub numbers: &'a [i32],
 }
 
@@ -36,6 +38,8 @@ pub enum Reason {
     BrokenOff,
     NoTriangles,
     Set,
+    LastByte,
+    EditionOfNoTest,
     Id,
     Sum,
     Range,
@@ -49,7 +53,7 @@ impl Reason {
     pub fn number(self) -> u32 {
         match self {
             Reason::TooManyRecordings => 13,
-            Reason::NoTriangles | Reason::Set => 14,
+            Reason::NoTriangles | Reason::Set | Reason::LastByte | Reason::EditionOfNoTest => 14,
             Reason::Lengths | Reason::BrokenOff | Reason::Sum => 15,
             Reason::Id => 16,
             Reason::Range => 17,
@@ -86,8 +90,8 @@ fn room_for<'a>(handed: Handed, room: &'a mut [u8]) -> Result<&'a mut [u8], Reas
 }
 
 fn judge_lists(handed: Handed) -> Result<(), Reason> {
-    let Handed { ids, counts, sets, numbers } = handed;
-    if counts.len() != ids.len() || sets.len() != ids.len() {
+    let Handed { ids, counts, sets, lasts, numbers } = handed;
+    if [counts.len(), sets.len(), lasts.len()] != [ids.len(); 3] {
         return Err(Reason::Lengths);
     }
     if numbers.len() % NUMBERS != 0 {
@@ -99,6 +103,12 @@ fn judge_lists(handed: Handed) -> Result<(), Reason> {
         }
         if ![TRAINING, TEST].contains(&sets[k]) {
             return Err(Reason::Set);
+        }
+        if ![FIRST_EDITION, SECOND_EDITION].contains(&lasts[k]) {
+            return Err(Reason::LastByte);
+        }
+        if lasts[k] == SECOND_EDITION && sets[k] != TEST {
+            return Err(Reason::EditionOfNoTest);
         }
         if ids[..k].contains(id) {
             return Err(Reason::Id);
@@ -147,7 +157,7 @@ fn fill(file: &mut [u8], handed: Handed) {
         entry[4..8].copy_from_slice(&(first as u32).to_le_bytes());
         entry[8..10].copy_from_slice(&(handed.counts[k] as u16).to_le_bytes());
         entry[10] = handed.sets[k];
-        entry[11] = 0;
+        entry[11] = handed.lasts[k];
         first += TRIANGLE * handed.counts[k] as usize;
     }
     let pointers = [place, handed.ids.len(), length];

@@ -1,6 +1,6 @@
 // What is decided of a pair of triangles: from its answer, which kind of pair it is, and what is said of it.
 ghost use mathlib.Core.Path.{_≡_};
-ghost use Rattle.triangles.specs.Decision.{decided, overlaps as overlapsBy, touches as touchesBy, said};
+ghost use Rattle.triangles.specs.Decision.{decided, overlaps as overlapsBy, touches as touchesBy, isRefused, withArea, said};
 
 // An answer as a decision.
 pub fn decision_from(a: triangles::Answer) -> triangles::Decision
@@ -39,6 +39,30 @@ pub fn touches(d: triangles::Decision) -> bool
         triangles::Decision::Overlapping(_) => false,
         triangles::Decision::Touching => true,
         triangles::Decision::Apart => false,
+    }
+}
+
+// Whether the pair was refused.
+pub fn is_refused(d: triangles::Decision) -> bool
+    ensures { λ r. ⌜ r ≡ isRefused d ⌝ }
+{
+    match d {
+        triangles::Decision::Refused(_number) => true,
+        triangles::Decision::Overlapping(_) => false,
+        triangles::Decision::Touching => false,
+        triangles::Decision::Apart => false,
+    }
+}
+
+// A sum of areas with that of one more pair, if it has one.
+pub fn with_area(sum: f64, d: triangles::Decision) -> f64
+    ensures { λ r. ⌜ r ≡ withArea sum d ⌝ }
+{
+    match d {
+        triangles::Decision::Refused(_) => sum,
+        triangles::Decision::Overlapping(a) => sum + a,
+        triangles::Decision::Touching => sum,
+        triangles::Decision::Apart => sum,
     }
 }
 

@@ -1,4 +1,4 @@
--- 02, No. 2, first statement: the reader takes whatever was written, and finds in it what was given. Assumes nothing.
+-- 02, No. 2, first statement, with No. 8: the reader takes whatever was written, and finds in it what was given. Assumes nothing.
 use Prim.Native.Nat.{ℕ, suc, _+_, _*_, _/_, _<_}
 use mathlib.Core.Path.{_≡_, refl, sym, ap, _∙_}
 use mathlib.Core.List.{List}
@@ -22,8 +22,8 @@ use Rattle.filing.proofs.Read.{table-is, count-is, entry-is, number-is,
 use Rattle.filing.proofs.Taken.{listed-all, numbers-are}
 
 -- lists that are the same one by one
-same-lists : (g h : Given) → g .ids ≡ h .ids → g .counts ≡ h .counts → g .sets ≡ h .sets → g .numbers ≡ h .numbers → givenOf (g .ids) (g .counts) (g .sets) (g .numbers) ≡ givenOf (h .ids) (h .counts) (h .sets) (h .numbers)
-same-lists g h p q r s = rw (p, q, r, s) refl
+same-lists : (g h : Given) → g .ids ≡ h .ids → g .counts ≡ h .counts → g .sets ≡ h .sets → g .lasts ≡ h .lasts → g .numbers ≡ h .numbers → givenOf (g .ids) (g .counts) (g .sets) (g .lasts) (g .numbers) ≡ givenOf (h .ids) (h .counts) (h .sets) (h .lasts) (h .numbers)
+same-lists g h p q r s t = rw (p, q, r, s, t) refl
 
 module _ (g : Given) (room : ℕ) (fit : Fit g room) (ids : Ids (g .ids)) where
   in-file : (i : ℕ) → i < recordings g → i < countIn (fileOf g)
@@ -50,6 +50,7 @@ module _ (g : Given) (room : ℕ) (fit : Fit g room) (ids : Ids (g .ids)) where
       (field-is (λ r. r .id) (g .ids) refl (λ i. refl))
       (field-is (λ r. r .count) (g .counts) (fit .counts) (λ i. refl))
       (field-is (λ r. r .set) (g .sets) (fit .sets) (λ i. refl))
+      (field-is (λ r. r .last) (g .lasts) (fit .lasts) (λ i. refl))
       numbers
 
   in-numbers : (i : ℕ) → i < recordings g → (j : ℕ) → j < 6 * countAt g i → 6 * sumTo g i + j < length (g .numbers)

@@ -6,8 +6,10 @@ use native.Mathlib.Omega.{arith}
 use native.Mathlib.Nat.{eq-zero-or-pos, eq-or-lt-of-le}
 use lib.IntN.{natAbs}
 use lib.ListN.{length}
+use Rattle.sets.specs.Editions.{KnownLast}
+use Rattle.sets.proofs.Editions.{known-last}
 use Rattle.layout.proofs.Accepted.{same, at-most}
-use Rattle.filing.specs.Given.{Given, recordings, triangles, countAt, setAt, sumOf, sumTo, entryOf}
+use Rattle.filing.specs.Given.{Given, recordings, triangles, countAt, setAt, lastAt, sumOf, sumTo, entryOf}
 use Rattle.filing.specs.File.{fileLength}
 use Rattle.filing.specs.Refusals.{Row, unequal, badEntry, idAgain, wrongSum, outOfRange, flat, tooMany, noRoom, refusal}
 use Rattle.filing.specs.Rows.{Applies}
@@ -29,9 +31,11 @@ module _ (g : Given) (room : ℕ) where
       let none = exactly-when g room .accepted .0 h in record {
         counts = same _ _ (λ n. none unequal (inl n));
         sets = same _ _ (λ n. none unequal (inr (inl n)));
-        whole = same _ _ (λ n. none unequal (inr (inr (λ t e. n (sixes t (length (g .numbers)) e)))));
+        lasts = same _ _ (λ n. none unequal (inr (inr (inl n))));
+        whole = same _ _ (λ n. none unequal (inr (inr (inr (λ t e. n (sixes t (length (g .numbers)) e))))));
         someTriangles = λ i l. ⊎-elim (λ z. absurd (none (badEntry i) (l, inr (inl z)))) (λ p. p) (eq-zero-or-pos (countAt g i));
         knownSet = λ i l. known (setAt g i) (λ z. none (badEntry i) (l, inl z)) (λ m. none (badEntry i) (l, inr (inr (inl m))));
+        knownLast = λ i l. known-last (setAt g i) (lastAt g i) (λ n. none (badEntry i) (l, inr (inr (inr (inl n)))));
         idsOnce = λ i j l m q. none (idAgain j) (m, (i, l, q));
         sum = same _ _ (none wrongSum);
         inRange = λ k l z m. at-most (natAbs z) 1000000 (λ n. none (outOfRange k) (l, (z, m, n)));
@@ -45,11 +49,12 @@ module _ (g : Given) (room : ℕ) where
   unfolding entryOf
   no-row f unequal (inl n) = n (f .counts)
   no-row f unequal (inr (inl n)) = n (f .sets)
-  no-row f unequal (inr (inr n)) = n (triangles g) (f .whole)
+  no-row f unequal (inr (inr (inl n))) = n (f .lasts)
+  no-row f unequal (inr (inr (inr n))) = n (triangles g) (f .whole)
   no-row f (badEntry i) (h, inl c) = let a = f .knownSet i h in omega arith
   no-row f (badEntry i) (h, inr (inl c)) = let a = f .someTriangles i h in omega arith
   no-row f (badEntry i) (h, inr (inr (inl c))) = let a = f .knownSet i h in omega arith
-  no-row f (badEntry i) (h, inr (inr (inr (inl c)))) = c refl
+  no-row f (badEntry i) (h, inr (inr (inr (inl c)))) = c (f .knownLast i h)
   no-row f (badEntry i) (h, inr (inr (inr (inr c)))) = c refl
   no-row f (idAgain i) (h, c) = f .idsOnce (c .0) i (c .1) h (c .2)
   no-row f wrongSum n = n (f .sum)
@@ -65,25 +70,29 @@ module _ (g : Given) (room : ℕ) where
 pub written-exactly-if : WrittenExactlyIf
 written-exactly-if g room = (fits g room, not-refused g room)
 
--- the reader's other two reasons for 14 do not occur
+-- the reader's other reason for 14 does not occur: every entry begins where the one before ends
 pub entry-plainly : EntryPlainly
 unfolding entryOf
 entry-plainly g room i = (to, from)
   where
-    to : Applies g room (badEntry i) → (i < recordings g) × ((countAt g i ≡ 0) ⊎ (1 < setAt g i))
-    to (h, inl c) = (h, inr (omega (arith, c)))
+    Plainly : Type 0
+    Plainly = (countAt g i ≡ 0) ⊎ (1 < setAt g i) ⊎ (KnownLast (setAt g i) (lastAt g i) → ⊥)
+
+    to : Applies g room (badEntry i) → (i < recordings g) × Plainly
+    to (h, inl c) = (h, inr (inl (omega (arith, c))))
     to (h, inr (inl c)) = (h, inl c)
-    to (h, inr (inr (inl c))) = (h, inr (omega (arith, c)))
-    to (h, inr (inr (inr (inl c)))) = absurd (c refl)
+    to (h, inr (inr (inl c))) = (h, inr (inl (omega (arith, c))))
+    to (h, inr (inr (inr (inl c)))) = (h, inr (inr c))
     to (h, inr (inr (inr (inr c)))) = absurd (c refl)
 
     -- a set over 1 is 2, or over 2
     over : 1 < setAt g i → (setAt g i ≡ 2) ⊎ (2 < setAt g i)
     over c = let le : 2 ≤ setAt g i = omega (arith, c) in ⊎-elim (λ q. inl (sym q)) (λ l. inr l) (eq-or-lt-of-le le)
 
-    from : (i < recordings g) × ((countAt g i ≡ 0) ⊎ (1 < setAt g i)) → Applies g room (badEntry i)
+    from : (i < recordings g) × Plainly → Applies g room (badEntry i)
     from (h, inl c) = (h, inr (inl c))
-    from (h, inr c) = (h, ⊎-elim (λ z. inl z) (λ l. inr (inr (inl l))) (over c))
+    from (h, inr (inl c)) = (h, ⊎-elim (λ z. inl z) (λ l. inr (inr (inl l))) (over c))
+    from (h, inr (inr c)) = (h, inr (inr (inr (inl c))))
 
 -- the sums go up to the last one
 pub sum-up : (g : Given) (n i : ℕ) → i ≤ n → sumTo g i ≤ sumTo g n

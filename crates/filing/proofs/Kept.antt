@@ -1,4 +1,4 @@
--- 02, No. 2, second statement, with No. 7: the lists that the reader finds in a good file without set 2 make that file again. They are not refused, and the bytes of each number, each entry and the trailer are those that were read. Assumes nothing.
+-- 02, No. 2, second statement, with No. 7 and No. 8: the lists that the reader finds in a good file without set 2 make that file again. They are not refused, and the bytes of each number, each entry and the trailer are those that were read. Assumes nothing.
 use Prim.Native.Nat.{ℕ, zero, suc, _+_, _-_, _*_, _/_, _<_, _≤_}
 use mathlib.Core.Path.{_≡_, refl, sym, ap, ap₂, subst, _∙_}
 use mathlib.Core.Logic.{inl, inr}
@@ -11,9 +11,8 @@ use Rattle.layout.specs.Bytes.{Bytes, u32At, i32At}
 use Rattle.layout.specs.Parts.{numbersOf, tablePlace, countOf as countIn, storedLength, entryPlace, entryAt, endBefore, triangleFrom, triangleAt}
 use Rattle.layout.specs.Rules.{twiceArea}
 use Rattle.layout.specs.Layout.{Layout}
-use Rattle.layout.specs.declared.Entry.{Entry}
 use Rattle.layout.proofs.Inside.{starts, end-at}
-use Rattle.filing.specs.Given.{recordings, triangles, coordinateAt, sumOf, sumTo, entryOf, triangleIn}
+use Rattle.filing.specs.Given.{entryBy, recordings, triangles, coordinateAt, sumOf, sumTo, entryOf, triangleIn}
 use Rattle.filing.specs.File.{inFour, bitsOf, entryBytes, triangleBytes, tableBytes, trailerBytes, fileLength, fileOf}
 use Rattle.filing.specs.Taken.{takenFrom}
 use Rattle.filing.proofs.Bytes.{four-kept, bits-kept, entry-kept, three-kept}
@@ -25,7 +24,7 @@ use Rattle.filing.specs.Refusals.{Row, unequal, badEntry, idAgain, wrong
 use Rattle.filing.specs.Rows.{Applies, First}
 use Rattle.filing.proofs.Rows.{exactly-when}
 use Rattle.filing.proofs.Fit.{known}
-use Rattle.filing.proofs.Taken.{listed-length, listed-at, numbers-are, table-whole, id-is, count-is, set-is, taken-lengths}
+use Rattle.filing.proofs.Taken.{listed-length, listed-at, numbers-are, table-whole, id-is, count-is, set-is, last-is, taken-lengths}
 
 module _ (file : List ℕ) (l : Layout file) where
   n-is : recordings (takenFrom file) ≡ countIn file
@@ -55,11 +54,8 @@ module _ (file : List ℕ) (l : Layout file) where
 
   entry-is : (i : ℕ) → i < countIn file → entryOf (takenFrom file) i ≡ entryAt file i
   unfolding entryOf
-  entry-is i h = same (id-is file l i h) (sum-is i (omega (arith, h)) ∙ sym (starts file l i h)) (count-is file l i h) (set-is file l i h) (sym (l .lastZero i h))
+  entry-is i h = same (id-is file l i h) (sum-is i (omega (arith, h)) ∙ sym (starts file l i h)) (count-is file l i h) (set-is file l i h) (last-is file l i h)
     where
-      entryBy : ℕ → ℕ → ℕ → ℕ → ℕ → Entry
-      entryBy id first count set last = record { id = id; first = first; count = count; set = set; last = last }
-
       same : {a b c d e a' b' c' d' e' : ℕ} → a ≡ a' → b ≡ b' → c ≡ c' → d ≡ d' → e ≡ e' → entryBy a b c d e ≡ entryBy a' b' c' d' e'
       same p q r s t = rw (p, q, r, s, t) refl
 
@@ -90,9 +86,11 @@ module _ (file : List ℕ) (l : Layout file) where
       record {
         counts = taken-lengths file .1 ∙ sym n-is;
         sets = taken-lengths file .2 ∙ sym n-is;
+        lasts = taken-lengths file .3 ∙ sym n-is;
         whole = let w = table-whole file l in let e = w .1 in let m = numbers-length in omega (arith, e, m);
         someTriangles = λ i h. rw (count-is file l i (omega (arith, h, n))) (l .someTriangles i (omega (arith, h, n)));
         knownSet = λ i h. rw (set-is file l i (omega (arith, h, n))) (known (entryAt file i .set) (none i (omega (arith, h, n))) (λ m. let k = l .knownSet i (omega (arith, h, n)) in omega (arith, k, m)));
+        knownLast = λ i h. rw (set-is file l i (omega (arith, h, n)), last-is file l i (omega (arith, h, n))) (l .knownLast i (omega (arith, h, n)));
         idsOnce = λ i j k h q. l .idsOnce i j k (omega (arith, h, n)) (sym (id-is file l i (omega (arith, k, h, n))) ∙ (q ∙ id-is file l j (omega (arith, h, n))));
         sum = let s = ap (λ m. 24 * sumTo (takenFrom file) m) n-is ∙ all-is in omega (arith, s, t);
         inRange = λ k h z m. l .inRange k (of-triangle k h) z (subst (λ x. List·Memᴰ z (numbersOf x)) (triangle-is k (of-triangle k h)) m);
@@ -114,7 +112,8 @@ module _ (file : List ℕ) (l : Layout file) where
         lengths : Applies (takenFrom file) room unequal → ⊥
         lengths (inl n) = n (taken-lengths file .1 ∙ sym n-is)
         lengths (inr (inl n)) = n (taken-lengths file .2 ∙ sym n-is)
-        lengths (inr (inr n)) = n (tablePlace file / 24) (let w = table-whole file l in let e = w .1 in let m = numbers-length in omega (arith, e, m))
+        lengths (inr (inr (inl n))) = n (taken-lengths file .3 ∙ sym n-is)
+        lengths (inr (inr (inr n))) = n (tablePlace file / 24) (let w = table-whole file l in let e = w .1 in let m = numbers-length in omega (arith, e, m))
     first-is (badEntry i) f = refl
     first-is (idAgain i) f =
         let a = f .applies in

@@ -135,7 +135,7 @@ module _ (g : Given) (room : ℕ) where
 
   pub told : (row : Row) → (Exists row × (test row ≡ true)) ↔ Applies g room row
   unfolding test
-  told unequal = only (either (other (length (g .counts)) (recordings g)) (either (other (length (g .sets)) (recordings g)) whole-test))
+  told unequal = only (either (other (length (g .counts)) (recordings g)) (either (other (length (g .sets)) (recordings g)) (either (other (length (g .lasts)) (recordings g)) whole-test)))
   told (badEntry i) = both (either (all-roles (setAt g i) .retired) (entry-test (entryOf g i) (24 * sumTo g i)))
   told (idAgain i) = both (seen-before i (idAt g i))
   told wrongSum = only (other (sumTo g (recordings g)) (triangles g))

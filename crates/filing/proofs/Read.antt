@@ -189,7 +189,7 @@ module _ (g : Given) where
         filled = omega (arith, table-is, count-is, file-length);
         someTriangles = λ i h. rw (of-entry (λ e. e .count) i h) (fit .someTriangles i (omega (arith, h, count-is)));
         knownSet = λ i h. let k = fit .knownSet i (omega (arith, h, count-is)) in rw (of-entry (λ e. e .set) i h) (omega (arith, k));
-        lastZero = λ i h. of-entry (λ e. e .last) i h;
+        knownLast = λ i h. rw (of-entry (λ e. e .set) i h, of-entry (λ e. e .last) i h) (fit .knownLast i (omega (arith, h, count-is)));
         fromStart = λ h. of-entry (λ e. e .first) 0 h ∙ unfold sumOf in refl;
         endToEnd = λ i h. of-entry (λ e. e .first) (i + 1) h ∙ (next i ∙ sym (of-entry partEnd i (omega (arith, h)) ∙ end-is i));
         toTable = λ i q. of-entry partEnd i (omega (arith, q)) ∙ (end-is i ∙ (last i q ∙ sym table-is));

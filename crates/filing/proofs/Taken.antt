@@ -11,7 +11,8 @@ use lib.Seq.{getD-at, ext-getD}
 use Rattle.layout.specs.Bytes.{i32At}
 use Rattle.layout.specs.Parts.{tablePlace, countOf, entryAt, endBefore}
 use Rattle.layout.specs.Layout.{Layout}
-use Rattle.layout.specs.Recordings.{recordingOf, partOf}
+use Rattle.layout.specs.Recordings.{recordingOf, recordingBy, partOf}
+use Rattle.layout.specs.declared.Recording.{Recording}
 use Rattle.layout.proofs.Returned.{is-good, there-is}
 use Rattle.layout.proofs.Inside.{parts-inside, starts, end-at}
 use Rattle.filing.specs.Taken.{listed, numbersIn, numbersTo, takenFrom}
@@ -100,22 +101,30 @@ module _ (file : List ℕ) (l : Layout file) where
 
   -- ---- what the other lists have
   module _ (i : ℕ) (h : i < countOf file) where
+    of-field : (field : Recording → ℕ) → getD (listed (λ k. field (recordingOf file k)) (countOf file)) i 0 ≡ field (recordingBy (entryAt file i))
+    of-field field = listed-at (λ k. field (recordingOf file k)) 0 (countOf file) i h ∙ ap field (there-is file i (is-good file l) h .0)
+
     pub id-is : getD (takenFrom file .ids) i 0 ≡ entryAt file i .id
     unfolding takenFrom
-    id-is = listed-at (λ k. recordingOf file k .id) 0 (countOf file) i h ∙ ap (λ r. r .id) (there-is file i (is-good file l) h .0)
+    id-is = of-field (λ r. r .id)
 
     pub count-is : getD (takenFrom file .counts) i 0 ≡ entryAt file i .count
     unfolding takenFrom
-    count-is = listed-at (λ k. recordingOf file k .count) 0 (countOf file) i h ∙ ap (λ r. r .count) (there-is file i (is-good file l) h .0)
+    count-is = of-field (λ r. r .count)
 
     pub set-is : getD (takenFrom file .sets) i 0 ≡ entryAt file i .set
     unfolding takenFrom
-    set-is = listed-at (λ k. recordingOf file k .set) 0 (countOf file) i h ∙ ap (λ r. r .set) (there-is file i (is-good file l) h .0)
+    set-is = of-field (λ r. r .set)
 
-pub taken-lengths : (file : List ℕ) → (length (takenFrom file .ids) ≡ countOf file) × (length (takenFrom file .counts) ≡ countOf file) × (length (takenFrom file .sets) ≡ countOf file)
+    pub last-is : getD (takenFrom file .lasts) i 0 ≡ entryAt file i .last
+    unfolding takenFrom
+    last-is = of-field (λ r. r .last)
+
+pub taken-lengths : (file : List ℕ) → (length (takenFrom file .ids) ≡ countOf file) × (length (takenFrom file .counts) ≡ countOf file) × (length (takenFrom file .sets) ≡ countOf file) × (length (takenFrom file .lasts) ≡ countOf file)
 unfolding takenFrom
 taken-lengths file = (
   listed-length (λ k. recordingOf file k .id) (countOf file),
   listed-length (λ k. recordingOf file k .count) (countOf file),
   listed-length (λ k. recordingOf file k .set) (countOf file),
+  listed-length (λ k. recordingOf file k .last) (countOf file),
 )

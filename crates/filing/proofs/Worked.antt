@@ -12,7 +12,7 @@ use Rattle.text.proofs.Saying.{sameWritten, same-written}
 use Rattle.filing.specs.Written.{written}
 use Rattle.layout.specs.Recordings.{recordingOf}
 use Rattle.filing.specs.Taken.{listed, takenFrom}
-use Rattle.filing.specs.Worked.{Case, Shown, again, cases, TakenFromExample}
+use Rattle.filing.specs.Worked.{Case, Shown, again, cases, TakenFromExample, TakenFromSecond}
 
 sameBytes : List ℕ → List ℕ → Bool
 unfolding sameList
@@ -39,3 +39,7 @@ worked c m =
 pub taken-from-example : TakenFromExample
 unfolding takenFrom recordingOf
 taken-from-example = refl
+
+pub taken-from-second : TakenFromSecond
+unfolding takenFrom recordingOf
+taken-from-second = refl

@@ -1,4 +1,4 @@
--- What the writer promises of its result and of the lent room, for all lists and all rooms; demand 1 of it, read off the promise; and 02's two statements, the second as No. 7 has it. Statements only.
+-- What the writer promises of its result and of the lent room, for all lists and all rooms; demand 1 of it, read off the promise; and 02's two statements, the second as No. 7 has it, both of the last bytes too, as No. 8 has them. Statements only.
 use Prim.Native.Nat.{ℕ, _+_, _*_, _<_, _≤_}
 use mathlib.Core.Path.{_≡_}
 use mathlib.Core.Logic.{_↔_}
@@ -52,7 +52,7 @@ pub record SameRecordings (g : Given) (file : List ℕ) : Type 0 where
   -- as many recordings as ids, and no more
   pub asMany : countIn file ≡ recordings g
   pub noMore : (i : ℕ) → recordings g ≤ i → recordingOf file i ≡ noRecording noSuch
-  -- recording i has the id, the count and the set that were given, its triangles begin where those before it end, and its last byte is zero
+  -- recording i has the id, the count, the set and the last byte that were given, and its triangles begin where those before it end
   pub recording : (i : ℕ) → i < recordings g → recordingOf file i ≡ recordingBy (entryOf g i)
   -- its part has 24 bytes for each of its triangles, which are, number by number, those that follow the triangles of the recordings before it
   pub partLength : (i : ℕ) → i < recordings g → length (partOf file i) ≡ 24 * countAt g i

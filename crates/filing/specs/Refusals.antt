@@ -1,4 +1,4 @@
--- 02, No. 2 and No. 7: the writer's refusals and their order. The rules of an entry and of a triangle are the reader's own, `entryRule` and `triangleRule`, but that no entry is written with the set that is retired. Definitions only.
+-- 02, No. 2, No. 7 and No. 8: the writer's refusals and their order. The rules of an entry and of a triangle are the reader's own, `entryRule` and `triangleRule`, but that no entry is written with the set that is retired. Definitions only.
 use Prim.Native.Nat.{ℕ, zero, suc, _+_, _*_}
 use mathlib.Core.Bool.{Bool, not, _||_, cond}
 use mathlib.Core.List.{List, [], _∷_}
@@ -49,7 +49,7 @@ unfoldable pub idsBefore : List ℕ → ℕ → List ℕ
 idsBefore ids zero = []
 idsBefore ids (suc i) = getD ids i 0 ∷ idsBefore ids i
 
--- the number of an entry that is to be written: 14 for the set that is retired, else what the reader says
+-- the number of an entry that is to be written: 14 for the set that is retired, else what the reader says, of the last byte too
 unfoldable pub newEntryRule : Entry → ℕ → Bool → ℕ
 unfolding entryRule
 newEntryRule e end seen = cond (isRetired (e .set)) 14 (entryRule e end seen)
@@ -57,7 +57,7 @@ newEntryRule e end seen = cond (isRetired (e .set)) 14 (entryRule e end seen)
 module _ (g : Given) where
   -- 15 at once: the lists differ in length, or a triangle is broken off
   abbrev pub isUnequal : Bool
-  isUnequal = not (eqb (length (g .counts)) (recordings g)) || (not (eqb (length (g .sets)) (recordings g)) || not (eqb (6 * triangles g) (length (g .numbers))))
+  isUnequal = not (eqb (length (g .counts)) (recordings g)) || (not (eqb (length (g .sets)) (recordings g)) || (not (eqb (length (g .lasts)) (recordings g)) || not (eqb (6 * triangles g) (length (g .numbers)))))
 
   -- 14, 16 or 0: recording i's entry, behind entries that end where it begins
   unfoldable pub entryNumber : ℕ → ℕ

@@ -9,9 +9,9 @@ use Rattle.filing.specs.Given.{Given, recordings, triangles, idAt, setAt
 use Rattle.filing.specs.File.{fileLength}
 use Rattle.filing.specs.Refusals.{Row, unequal, badEntry, idAgain, wrongSum, outOfRange, flat, tooMany, noRoom, numberOf, refusal}
 
--- two lists differ in length, or the numbers are not those of whole triangles
+-- the lists of recordings differ in length, or the numbers are not those of whole triangles
 abbrev pub Unequal : Given → Type 0
-Unequal g = (length (g .counts) ≡ length (g .ids) → ⊥) ⊎ (length (g .sets) ≡ length (g .ids) → ⊥) ⊎ ((t : ℕ) → 6 * t ≡ length (g .numbers) → ⊥)
+Unequal g = (length (g .counts) ≡ length (g .ids) → ⊥) ⊎ (length (g .sets) ≡ length (g .ids) → ⊥) ⊎ (length (g .lasts) ≡ length (g .ids) → ⊥) ⊎ ((t : ℕ) → 6 * t ≡ length (g .numbers) → ⊥)
 
 -- the row applies to the lists and a room of so many bytes; a row of an entry or a triangle only if there is one. What is wrong with an entry or a triangle is what the reader says, and with an entry also set 2
 abbrev pub Applies : Given → ℕ → Row → Type 0

@@ -1,4 +1,4 @@
--- 02, No. 2: what the reader got from a file, as lists: id, count and set of each recording in the table's order, and the numbers of all parts in that order. Definitions only.
+-- 02, No. 2 and No. 8: what the reader got from a file, as lists: id, count, set and last byte of each recording in the table's order, and the numbers of all parts in that order. Definitions only.
 use Prim.Native.Nat.{ℕ, zero, suc, _*_, _/_}
 use mathlib.Core.List.{List, [], _∷_, _++_}
 use lib.ListN.{length}
@@ -29,5 +29,6 @@ takenFrom file = record {
   ids = listed (λ i. recordingOf file i .id) (countOf file);
   counts = listed (λ i. recordingOf file i .count) (countOf file);
   sets = listed (λ i. recordingOf file i .set) (countOf file);
+  lasts = listed (λ i. recordingOf file i .last) (countOf file);
   numbers = numbersTo file (countOf file);
 }

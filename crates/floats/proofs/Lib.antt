@@ -7,5 +7,6 @@ pub mod First
 pub mod OneAnswer
 pub mod Smaller
 pub mod Sums
+pub mod Plus
 pub mod Turns
 pub mod Fractions

@@ -56,7 +56,7 @@ plus-units f q k = go (ltb (q * 2 ^ k) (2 ^ (low f + suc (emax f))))
     go true = plus-odd (suc (prec f)) q k (low f)
     go false = refl
 
-round-plus : (num den : ℕ) → isPlus (round binary64 false num den) ≡ true
+pub round-plus : (num den : ℕ) → isPlus (round binary64 false num den) ≡ true
 round-plus num den =
     let n = num * 2 ^ low binary64 in
     let k = size (n / den) - prec binary64 in

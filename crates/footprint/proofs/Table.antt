@@ -12,6 +12,7 @@ use Rattle.floats.specs.Lists.{any}
 use Rattle.floats.specs.Turns.{inTurn}
 use Rattle.layout.specs.Bytes.{u32At}
 use Rattle.layout.specs.Parts.{tablePlace, countOf, entryFrom, entryPlace, entryAt, partEnd, endBefore}
+use Rattle.sets.specs.Editions.{isWrongLast}
 use Rattle.layout.specs.Rules.{isBadEntry, isSeen, entryRule}
 use Rattle.layout.specs.Verdict.{badEntry, idAgain, wrongEnd, idsBefore, test, placeOf, firstOf, numberAt, good}
 use Rattle.layout.specs.Stages.{tableRows, entryNumber}
@@ -57,14 +58,14 @@ entry-cut file at h = h ∙ (entry-part file at (at + 12 - at) 0 (omega arith) �
 -- an entry that is not refused begins where those before it end
 starts : (e : Entry) (end : ℕ) (seen : Bool) → entryRule e end seen ≡ 0 → e .first ≡ end
 unfolding entryRule isBadEntry
-starts e end seen h = eqb-true (e .first) end (go (eqb (e .count) 0) (ltb 2 (e .set)) (eqb (e .last) 0) (eqb (e .first) end) h)
+starts e end seen h = eqb-true (e .first) end (go (eqb (e .count) 0) (ltb 2 (e .set)) (isWrongLast (e .set) (e .last)) (eqb (e .first) end) h)
   where
-    go : (a b c d : Bool) → _≡_ {A = ℕ} (cond (a || (b || (not c || not d))) 14 (cond seen 16 0)) 0 → d ≡ true
+    go : (a b c d : Bool) → _≡_ {A = ℕ} (cond (a || (b || (c || not d))) 14 (cond seen 16 0)) 0 → d ≡ true
     go true b c d h = absurd (omega arith)
     go false true c d h = absurd (omega arith)
-    go false false false d h = absurd (omega arith)
-    go false false true false h = absurd (omega arith)
-    go false false true true h = refl
+    go false false true d h = absurd (omega arith)
+    go false false false false h = absurd (omega arith)
+    go false false false true h = refl
 
 -- so the end that the reader carries is the end of its triangles
 pub end-is : (file : List ℕ) (i : ℕ) (e : Entry) (end : ℕ) (seen : Bool) {number : ℕ} → e ≡ entryAt file i → number ≡ entryRule e end seen → number ≡ 0 → end + 24 * e .count ≡ endBefore file (i + 1)

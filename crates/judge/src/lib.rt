@@ -46,10 +46,11 @@ fn is_flat(x0: u32, y0: u32, x1: u32, y1: u32, x2: u32, y2: u32) -> bool
     requires { ⌜ (x0 ≤ 2000000) × (y0 ≤ 2000000) × (x1 ≤ 2000000) × (y1 ≤ 2000000) × (x2 ≤ 2000000) × (y2 ≤ 2000000) ⌝ }
     ensures { λ r. ⌜ r ≡ isFlat (triangleOf (pos x0) (pos y0) (pos x1) (pos y1) (pos x2) (pos y2)) ⌝ }
 {
-    let a = x1 as i64 - x0 as i64;
-    let b = y1 as i64 - y0 as i64;
+    // Taken in this order the sides leave a register more to the writer's loop over triangles, which has none to spare.
     let c = x2 as i64 - x0 as i64;
     let d = y2 as i64 - y0 as i64;
+    let a = x1 as i64 - x0 as i64;
+    let b = y1 as i64 - y0 as i64;
     a * d - b * c == 0
 }
 
@@ -82,7 +83,7 @@ pub fn entry_rule(e: layout::Entry, end: u32, seen: bool) -> u32
     if 2 < e.set {
         return 14;
     }
-    if e.last != 0 {
+    if sets::is_wrong_last(e.set, e.last) {
         return 14;
     }
     if e.first != end {

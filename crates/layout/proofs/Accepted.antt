@@ -10,6 +10,7 @@ use lib.Dec.{eqb, ltb}
 use lib.IntN.{natAbs}
 use lib.ListN.{length}
 use borrow.Author.Tests.{eqb-true, eqb-false, ltb-true, ltb-false}
+use Rattle.sets.proofs.Editions.{known-last}
 use Rattle.layout.specs.Parts.{countOf, entryAt, endBefore, partEnd}
 use Rattle.layout.specs.Verdict.{Row, badLength, otherLength, badTrailer, badEntry, idAgain, wrongEnd, outOfRange, flat}
 use Rattle.layout.specs.Layout.{Layout, AcceptedExactlyIf}
@@ -46,7 +47,7 @@ module _ (file : List ℕ) where
   no-row l badTrailer (inr h) = h (l .filled)
   no-row l (badEntry i) (h, inl c) = let a = l .someTriangles i h in omega arith
   no-row l (badEntry i) (h, inr (inl c)) = let a = l .knownSet i h in omega arith
-  no-row l (badEntry i) (h, inr (inr (inl c))) = c (l .lastZero i h)
+  no-row l (badEntry i) (h, inr (inr (inl c))) = c (l .knownLast i h)
   no-row l (badEntry i) (h, inr (inr (inr c))) = c (begins l i h)
   no-row l (idAgain i) (h, c) = l .idsOnce (c .0) i (c .1) h (c .2)
   no-row l wrongEnd (inl c) = c .2 (l .toTable (c .0) (c .1))
@@ -67,7 +68,7 @@ module _ (file : List ℕ) where
       filled = same _ _ (λ n. none badTrailer (inr n));
       someTriangles = λ i h. ⊎-elim (λ z. absurd (none (badEntry i) (h, inl z))) (λ p. p) (eq-zero-or-pos (entryAt file i .count));
       knownSet = λ i h. at-most (entryAt file i .set) 2 (λ l. none (badEntry i) (h, inr (inl l)));
-      lastZero = λ i h. same (entryAt file i .last) 0 (λ n. none (badEntry i) (h, inr (inr (inl n))));
+      knownLast = λ i h. known-last (entryAt file i .set) (entryAt file i .last) (λ n. none (badEntry i) (h, inr (inr (inl n))));
       fromStart = λ h. unfold endBefore in first-is 0 h;
       endToEnd = λ i h. let q : i + 1 ≡ suc i = omega arith in subst (λ n. entryAt file n .first ≡ partEnd (entryAt file i)) (sym q) (unfold endBefore in first-is (suc i) (omega arith));
       toTable = λ i q. same _ _ (λ n. none wrongEnd (inl (i, q, n)));

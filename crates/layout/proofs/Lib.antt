@@ -11,3 +11,4 @@ pub mod Cross
 pub mod Stages
 pub mod Worked
 pub mod Fronts
+pub mod Before

@@ -12,6 +12,7 @@ use lib.ListN.{length}
 use borrow.Author.Tests.{eqb-true, eqb-false, eq-eqb, ne-eqb, ltb-true, lt-ltb, not-true}
 use Rattle.floats.specs.Lists.{any}
 use Rattle.floats.specs.Whole.{isNought}
+use Rattle.sets.proofs.Editions.{all-lasts}
 use Rattle.layout.specs.Parts.{Triangle, numbersOf, tablePlace, countOf, storedLength, entryAt, endBefore, partEnd, triangleAt}
 use Rattle.layout.specs.Rules.{isBadLength, isBadTrailer, isBadEntry, isSeen, isWrongEnd, isFar, isOutOfRange, twiceArea, isFlat}
 use Rattle.layout.specs.Verdict.{Row, badLength, otherLength, badTrailer, badEntry, idAgain, wrongEnd, outOfRange, flat, numberOf, idsBefore, test}
@@ -97,7 +98,7 @@ trailer-test t c n = either (less 64 c) (other (t + 12 * c + 12) n)
 
 pub entry-test : (e : Entry) (end : ℕ) → Tells (isBadEntry e end) (BadEntry e end)
 unfolding isBadEntry
-entry-test e end = either (same (e .count) 0) (either (less 2 (e .set)) (either (other (e .last) 0) (other (e .first) end)))
+entry-test e end = either (same (e .count) 0) (either (less 2 (e .set)) (either (all-lasts (e .set) (e .last) .wrong) (other (e .first) end)))
 
 pub range-test : (t : Triangle) → Tells (isOutOfRange t) (OutOfRange t)
 unfolding isOutOfRange

@@ -1,10 +1,11 @@
--- 01, "The footprint file": what a good file is, in facts about the file alone: the record has no word of refusals, of their order, or of how a file is read. Statements only.
+-- 01, "The footprint file", with 02, No. 8: what a good file is, in facts about the file alone: the record has no word of refusals, of their order, or of how a file is read. Statements only.
 use Prim.Native.Nat.{ℕ, _+_, _*_, _<_, _≤_}
 use mathlib.Core.Path.{_≡_}
 use mathlib.Core.Logic.{_↔_}
 use mathlib.Core.List.{List, List·Memᴰ}
 use lib.ListN.{length}
 use lib.IntN.{ℤ, pos, natAbs}
+use Rattle.sets.specs.Editions.{KnownLast}
 use Rattle.layout.specs.Parts.{tablePlace, countOf, storedLength, entryAt, partEnd, triangleAt, numbersOf}
 use Rattle.layout.specs.Rules.{twiceArea}
 use Rattle.layout.specs.Verdict.{verdict, good}
@@ -17,10 +18,10 @@ pub record Layout (file : List ℕ) : Type 0 where
   -- at most 64 recordings; triangles, table and trailer fill the file
   pub atMost64 : countOf file ≤ 64
   pub filled : tablePlace file + 12 * countOf file + 12 ≡ length file
-  -- every entry has triangles, a set that there is (0 training, 1 test, 2 in old files), and a last byte of zero
+  -- every entry has triangles, a set that there is (0 training, 1 test, 2 in old files), and a last byte that may stand beside it (0, or 1 of a test recording)
   pub someTriangles : (i : ℕ) → i < countOf file → 0 < entryAt file i .count
   pub knownSet : (i : ℕ) → i < countOf file → entryAt file i .set ≤ 2
-  pub lastZero : (i : ℕ) → i < countOf file → entryAt file i .last ≡ 0
+  pub knownLast : (i : ℕ) → i < countOf file → KnownLast (entryAt file i .set) (entryAt file i .last)
   -- the recordings lie end to end from 0 to the table
   pub fromStart : 0 < countOf file → entryAt file 0 .first ≡ 0
   pub endToEnd : (i : ℕ) → i + 1 < countOf file → entryAt file (i + 1) .first ≡ partEnd (entryAt file i)

@@ -10,3 +10,4 @@ pub mod Recordings
 pub mod Promise
 pub mod Inside
 pub mod Worked
+pub mod Before

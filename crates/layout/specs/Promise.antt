@@ -5,6 +5,7 @@ use mathlib.Core.Logic.{_⊎_, _↔_}
 use mathlib.Core.List.{List, []}
 use lib.ListN.{length, take, drop}
 use Rattle.floats.specs.OneAnswer.{NoSecond}
+use Rattle.sets.specs.Editions.{KnownLast}
 use Rattle.layout.specs.Parts.{countOf, entryAt}
 use Rattle.layout.specs.Verdict.{Row, numberOf, placeOf, numberAt, good, verdict}
 use Rattle.layout.specs.Layout.{Layout}
@@ -62,7 +63,7 @@ pub record FileDemand2 (file : List ℕ) (k : ℕ) (r : Recording) (part : List 
   pub entry : r ≡ recordingBy (entryAt file k)
   pub someTriangles : 0 < r .count
   pub knownSet : r .set ≤ 2
-  pub lastZero : r .last ≡ 0
+  pub knownLast : KnownLast (r .set) (r .last)
   pub inFile : r .first + 24 * r .count ≤ length file
   pub bytes : part ≡ take (24 * r .count) (drop (r .first) file)
   pub partLength : length part ≡ 24 * r .count

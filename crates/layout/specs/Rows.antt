@@ -6,6 +6,7 @@ use mathlib.Core.List.{List, List·Memᴰ}
 use lib.ListN.{length}
 use lib.IntN.{ℤ, pos, natAbs}
 use Rattle.floats.specs.Turns.{EarlierBy, FirstBy}
+use Rattle.sets.specs.Editions.{KnownLast}
 use Rattle.layout.specs.Parts.{Triangle, numbersOf, tablePlace, countOf, storedLength, entryAt, endBefore, partEnd, triangleAt}
 use Rattle.layout.specs.Rules.{twiceArea}
 use Rattle.layout.specs.Verdict.{Row, badLength, otherLength, badTrailer, badEntry, idAgain, wrongEnd, outOfRange, flat, numberOf, placeOf, numberAt, good, verdict}
@@ -22,7 +23,7 @@ BadTrailer table count length = (64 < count) ⊎ (table + 12 * count + 12 ≡ le
 
 -- end: where the entry before ended
 abbrev pub BadEntry : Entry → ℕ → Type 0
-BadEntry e end = (e .count ≡ 0) ⊎ (2 < e .set) ⊎ (e .last ≡ 0 → ⊥) ⊎ (e .first ≡ end → ⊥)
+BadEntry e end = (e .count ≡ 0) ⊎ (2 < e .set) ⊎ (KnownLast (e .set) (e .last) → ⊥) ⊎ (e .first ≡ end → ⊥)
 
 -- an entry before entry i has its id
 abbrev pub IdSeen : (ℕ → ℕ) → ℕ → Type 0

@@ -1,4 +1,4 @@
--- 01, "The footprint file": the tests of the refusal table, of plain numbers. Whoever reads a file's bytes, or means to write some, asks the same. Definitions only.
+-- 01, "The footprint file", with 02, No. 8: the tests of the refusal table, of plain numbers. Whoever reads a file's bytes, or means to write some, asks the same. Definitions only.
 use Prim.Native.Nat.{ℕ, _+_, _*_}
 use mathlib.Core.Bool.{Bool, not, _||_, cond}
 use mathlib.Core.List.{List}
@@ -7,6 +7,7 @@ use lib.IntN.{ℤ, natAbs}
 use Rattle.floats.specs.Lists.{any}
 use Rattle.floats.specs.Numbers.{crossFrom}
 use Rattle.floats.specs.Whole.{whole, isNought}
+use Rattle.sets.specs.Editions.{isWrongLast}
 use Rattle.layout.specs.Parts.{Triangle, numbersOf}
 use Rattle.layout.specs.declared.Entry.{Entry}
 
@@ -22,9 +23,9 @@ isOtherLength stored length = not (eqb stored length)
 abbrev pub isBadTrailer : ℕ → ℕ → ℕ → Bool
 isBadTrailer table count length = ltb 64 count || not (eqb (table + 12 * count + 12) length)
 
--- 14: no triangles, a set that there is not, something in the last byte, or a beginning that is not `end`, where the entry before ended
+-- 14: no triangles, a set that there is not, a last byte that may not stand beside the set, or a beginning that is not `end`, where the entry before ended
 unfoldable pub isBadEntry : Entry → ℕ → Bool
-isBadEntry e end = eqb (e .count) 0 || (ltb 2 (e .set) || (not (eqb (e .last) 0) || not (eqb (e .first) end)))
+isBadEntry e end = eqb (e .count) 0 || (ltb 2 (e .set) || (isWrongLast (e .set) (e .last) || not (eqb (e .first) end)))
 
 -- 16: the id is among those of the entries before
 unfoldable pub isSeen : ℕ → List ℕ → Bool

@@ -106,14 +106,17 @@ double = v ++ (u ++ (changed 7 0 2 0 0 0 ++ trailer 48 1 72))
 abbrev pub refusedFile : List ℕ → ℕ → ℕ → Case
 refusedFile file number place = record { file = file; k = 0; file-says = numberAt number place; recording-says = noRecording (numberAt number place); part = [] }
 
-abbrev pub answeredFile : List ℕ → ℕ → ℕ → ℕ → ℕ → ℕ → List ℕ → Case
-answeredFile file k id first count set part = record {
+abbrev pub answeredWith : ℕ → List ℕ → ℕ → ℕ → ℕ → ℕ → ℕ → List ℕ → Case
+answeredWith last file k id first count set part = record {
   file = file;
   k = k;
   file-says = good;
-  recording-says = record { number = 0; place = 0; id = id; first = first; count = count; set = set; last = 0 };
+  recording-says = record { number = 0; place = 0; id = id; first = first; count = count; set = set; last = last };
   part = part;
 }
+
+abbrev pub answeredFile : List ℕ → ℕ → ℕ → ℕ → ℕ → ℕ → List ℕ → Case
+answeredFile file k id first count set part = answeredWith 0 file k id first count set part
 
 abbrev pub noSuchRecording : List ℕ → ℕ → Case
 noSuchRecording file k = record { file = file; k = k; file-says = good; recording-says = noRecording (numberAt 10 0); part = [] }
@@ -126,6 +129,10 @@ cases =
     ∷ noSuchRecording example 2
     ∷ answeredFile double 0 7 0 2 0 (v ++ u)
     ∷ answeredFile (pairOf v far seven large) 1 67305985 24 1 2 far
+    -- a test recording of the second edition, behind a training recording and before one
+    ∷ answeredWith 1 (pairOf v u seven (changed 9 24 1 0 1 1)) 1 9 24 1 1 u
+    ∷ answeredWith 1 (pairOf v u (changed 7 0 1 0 1 1) (changed 9 24 1 0 0 0)) 0 7 0 1 1 v
+    ∷ answeredFile (pairOf v u (changed 7 0 1 0 1 1) (changed 9 24 1 0 0 0)) 1 9 24 1 0 u
     -- 11 of no bytes and of eleven; 12; 13: table 4, 65 recordings, and a table whose end is the file's but for 2^32
     ∷ refusedFile [] 11 0
     ∷ refusedFile (0 ∷ 0 ∷ 0 ∷ 0 ∷ 0 ∷ 0 ∷ 0 ∷ 11 ∷ 0 ∷ 0 ∷ 0 ∷ []) 11 0
@@ -136,7 +143,19 @@ cases =
     -- 14 by each of its reasons
     ∷ refusedFile (pairOf v u (changed 7 0 0 0 0 0) nine) 14 48
     ∷ refusedFile (pairOf v u seven (changed 9 24 1 0 3 0)) 14 60
-    ∷ refusedFile (pairOf v u seven (changed 9 24 1 0 1 1)) 14 60
+    -- a last byte of 1 beside set 0, set 2 and a set that there is not; of another value beside each set
+    ∷ refusedFile (pairOf v u (changed 7 0 1 0 0 1) nine) 14 48
+    ∷ refusedFile (pairOf v u seven (changed 9 24 1 0 2 1)) 14 60
+    ∷ refusedFile (pairOf v u seven (changed 9 24 1 0 3 1)) 14 60
+    ∷ refusedFile (pairOf v u seven (changed 9 24 1 0 1 2)) 14 60
+    ∷ refusedFile (pairOf v u seven (changed 9 24 1 0 1 255)) 14 60
+    ∷ refusedFile (pairOf v u (changed 7 0 1 0 0 2) nine) 14 48
+    ∷ refusedFile (pairOf v u seven (changed 9 24 1 0 2 2)) 14 60
+    -- of the second edition, each of the others
+    ∷ refusedFile (pairOf v u seven (changed 9 24 0 0 1 1)) 14 60
+    ∷ refusedFile (pairOf v u seven (changed 9 48 1 0 1 1)) 14 60
+    ∷ refusedFile (pairOf v u seven (changed 7 24 1 0 1 1)) 16 60
+    ∷ refusedFile (pairOf v u seven (changed 7 24 1 0 0 1)) 14 60
     ∷ refusedFile (pairOf v u (changed 7 24 1 0 0 0) nine) 14 48
     ∷ refusedFile (pairOf v u seven (changed 9 48 1 0 1 0)) 14 60
     -- 16, of an id that is not the previous one too, and 14 before it

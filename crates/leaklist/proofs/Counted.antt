@@ -8,14 +8,13 @@ use native.Mathlib.Omega.{arith}
 use native.Mathlib.Nat.{add-zero}
 use native.Mathlib.Numerals.{add-one}
 use lib.Ieee.{Float}
-use Rattle.floats.specs.Lists.{once}
 use Rattle.floats.specs.Finite.{finite}
 use Rattle.triangles.specs.declared.Decision.{Decision}
-use Rattle.triangles.specs.Decision.{byRules, decisionOf, overlaps, touches}
+use Rattle.triangles.specs.Decision.{byRules}
 use Rattle.shapes.specs.declared.Shape.{Shape}
-use Rattle.shapes.specs.Shapes.{Made, sixOf, twelve}
+use Rattle.shapes.specs.Shapes.{sixOf, twelve}
 use Rattle.boxes.specs.declared.Box.{Box}
-use Rattle.boxes.specs.Boxes.{boxOf, sharePoint}
+use Rattle.boxes.specs.Boxes.{sharePoint}
 use Rattle.boxes.specs.Shared.{FiniteBox}
 use Rattle.boxes.specs.Near.{isNear, TwelveFinite}
 use Rattle.boxes.proofs.Points.{box-finite}
@@ -28,17 +27,17 @@ use Rattle.listing.specs.Turns.{upTo, each, folded}
 use Rattle.listing.specs.Pairs.{noneYet, tallied}
 use Rattle.listing.proofs.Turns.{map-append, folded-append, each-append, each-one}
 use Rattle.listing.proofs.Never.{by-boxes}
-use Rattle.leaklist.specs.Code.{shapeIn, boxOfShape, ReadyAt, ReadyFrom, valuesIn, rowIn, talliedNear, tallyIn}
+use Rattle.leaklist.specs.Code.{shapeIn, ReadyAt, ReadyFrom, valuesIn, rowIn, talliedNear, tallyIn}
 
 one-more : (n : ℕ) → upTo (n + 1) ≡ upTo n ++ (n ∷ [])
 one-more n = ap upTo (add-one n) ∙ (unfold upTo in refl)
 
--- a tally by its counts
-abbrev tallyBy : ℕ → ℕ → ℕ → Tally
-tallyBy n t k = record { overlapping = n; touching = t; tested = k }
+-- a tally by what it has
+abbrev tallyBy : ℕ → ℕ → ℕ → Bool → Float → Tally
+tallyBy n t k r s = record { overlapping = n; touching = t; tested = k; refused = r; area = s }
 
-pub tally-same : {a b c d e f : ℕ} → a ≡ d → b ≡ e → c ≡ f → tallyBy a b c ≡ tallyBy d e f
-tally-same p q r = rw (p, q, r) refl
+pub tally-same : {a b c d e f : ℕ} {g h : Bool} {s v : Float} → a ≡ d → b ≡ e → c ≡ f → g ≡ h → s ≡ v → tallyBy a b c g s ≡ tallyBy d e f h v
+tally-same p q r o u = rw (p, q, r, o, u) refl
 
 -- ---- one pair
 -- a near one is what the triangle rules decide; a far one adds nothing

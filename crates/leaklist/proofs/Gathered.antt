@@ -6,12 +6,11 @@ use mathlib.Core.List.{List, [], _∷_, _++_, map, append-assoc, append-nil, Lis
 use native.Mathlib.Omega.{arith}
 use native.Mathlib.Numerals.{add-one}
 use lib.ListN.{length}
-use lib.Ieee.{Float}
+use lib.Ieee.{Float, binary64, add, mul}
 use Rattle.floats.specs.Lists.{filter, count, once}
 use Rattle.floats.proofs.Lists.{filter-append, count-append}
-use Rattle.floats.specs.Finite.{finite}
+use Rattle.floats.specs.Finite.{finite, nought}
 use Rattle.floats.proofs.Lists.{so, os, all-at}
-use Rattle.shapes.specs.declared.Shape.{Shape}
 use Rattle.shapes.specs.Shapes.{Made, sixOf, twelve}
 use Rattle.boxes.specs.declared.Box.{Box}
 use Rattle.boxes.specs.Boxes.{sharePoint}
@@ -27,12 +26,15 @@ use Rattle.layout.proofs.Inside.{parts-inside}
 use Rattle.listing.specs.declared.Tally.{Tally}
 use Rattle.listing.specs.Turns.{upTo, each, folded}
 use Rattle.sets.specs.Sets.{isTest, isTraining, isRetired}
-use Rattle.listing.specs.Pairs.{placeIn, coordinatesAt, valuesAt, trianglePairs, noneYet, tallied, tallyOf, onlyTouch}
-use Rattle.listing.specs.Leaks.{Leak, tests, trainings, recordingPairs, tallyFor, isLeak, leakPairs, leakOf, leaks, isTouching, touchingPairs, touching, formerly, formerlyHeldBack}
-use Rattle.listing.proofs.Turns.{below, map-append, map-same-in, each-append, filter-count, sum-from}
+use Rattle.sets.specs.Editions.{isSecond}
+use Rattle.triangles.specs.Positions.{half}
+use Rattle.listing.specs.Pairs.{placeIn, coordinatesAt, valuesAt, trianglePairs, noneYet, tallied, tallyOf, absolute, eAt, sizesOf, ownArea, leakByFirst, leakBySecond, leak, onlyTouch}
+use Rattle.listing.specs.Leaks.{Leak, tests, trainings, recordingPairs, tallyFor, ownFor, isLeak, leakPairs, leakOf, leaks, isTouching, touchingPairs, touching, formerly, formerlyHeldBack}
+use Rattle.listing.proofs.Turns.{below, map-append, map-map, map-same-in, each-append, filter-count, sum-from}
+use Rattle.listing.proofs.Editions.{own-not-below, no-leak}
 use Rattle.listing.proofs.Demand.{tested-walked}
 use Rattle.writing.specs.Triples.{leaksIn}
-use Rattle.leaklist.specs.Code.{shapeFrom, Prepared, Framed, Owned, ReadyAt, ReadyFrom, valuesIn, rowIn, tallyIn, Gathering, Found, foundIn, nothing, together, leakOn, foundOn, foundFor, itemOf, rowTo, testOf, listTo, formerlyTo, foundByRules}
+use Rattle.leaklist.specs.Code.{shapeFrom, Prepared, Framed, Owned, ReadyAt, ReadyFrom, valuesIn, rowIn, tallyIn, sizeIn, sumIn, ownIn, askedIn, areaFor, Gathering, Found, foundIn, nothing, together, leakOn, foundOn, foundFor, itemOf, rowTo, testOf, listTo, formerlyTo, foundByRules}
 use Rattle.leaklist.proofs.Counted.{tally-far}
 
 -- ---- the recording's triangles by number
@@ -94,10 +96,6 @@ unfolding each
 each-same f h [] same = refl
 each-same f h (x ∷ xs) same = ap₂ _++_ (same x (here refl)) (each-same f h xs (λ y m. same y (there m)))
 
-map-map : {A B C : Type 0} (g : B → C) (f : A → B) (xs : List A) → map g (map f xs) ≡ map (λ x. g (f x)) xs
-map-map g f [] = refl
-map-map g f (x ∷ xs) = ap (g (f x) ∷_) (map-map g f xs)
-
 map-each : {A B C : Type 0} (g : B → C) (f : A → List B) (xs : List A) → map g (each f xs) ≡ each (λ x. map g (f x)) xs
 unfolding each
 map-each g f [] = refl
@@ -144,6 +142,37 @@ module _ (file : List ℕ) (table bounds own : List Float) (g : Gathering file t
       ∙ tally-far table bounds (test .first / 24) (test .count) (train .first / 24) (train .count) (all-ready file table bounds own g (test .first / 24) (test .count) p) (all-ready file table bounds own g (train .first / 24) (train .count) q)
       (sym (ap₂ sharePoint (g .owned i hi) (g .owned j hj)) ∙ h)
 
+-- ---- the own area of a recording, from the table
+cross-is : (file : List ℕ) (at : ℕ) → shapeFrom file at .cross ≡ eAt file at
+unfolding shapeFrom eAt
+cross-is file at = refl
+
+module _ (file : List ℕ) (table bounds own : List Float) (g : Gathering file table bounds own) (i : ℕ) (hi : i < countOf file) where
+  size-is : (a : ℕ) → a < entryAt file i .count → sizeIn table (entryAt file i .first / 24 + a) ≡ absolute (eAt file (placeIn (entryAt file i) a))
+  size-is a h =
+      let p = in-table file (g .good) i hi in
+      ap absolute (ap (λ s. s .cross) (g .prepared (entryAt file i .first / 24 + a) (omega (arith, p, h))) ∙ (cross-is file (24 * (entryAt file i .first / 24 + a)) ∙ ap (eAt file) (place-is file (g .good) i hi a)))
+
+  area-is : ownIn table (entryAt file i .first / 24) (entryAt file i .count) ≡ ownFor file i
+  unfolding sumIn ownFor ownArea sizesOf
+  area-is = ap (λ ss. mul binary64 half (folded (add binary64) nought ss)) (map-same-in (λ a. sizeIn table (entryAt file i .first / 24 + a)) (λ a. absolute (eAt file (placeIn (entryAt file i) a))) (upTo (entryAt file i .count)) (λ a m. size-is a (below (entryAt file i .count) m)))
+
+  -- as the code comes to it: the entry as it was read
+  pub area-fits : {e : Entry} → e ≡ entryAt file i → (e .first / 24 + e .count ≤ 2730) × (length table ≡ 30030)
+  area-fits p = let a = in-table file (g .good) i hi in let few = few-triangles file (g .good) in rw p (omega (arith, a, few), g .size)
+
+  pub area-by : {e : Entry} {r : Float} → e ≡ entryAt file i → r ≡ askedIn table e → r ≡ areaFor file i
+  unfolding areaFor
+  area-by p h = h ∙ (ap (askedIn table) p ∙ ap (λ s. cond (isSecond (entryAt file i .last)) s nought) area-is)
+
+-- an area that is not asked for changes nothing
+asked-same : (last : ℕ) (own : Float) (t : Tally) → leak last (cond (isSecond last) own nought) t ≡ leak last own t
+asked-same last own t = go (isSecond last)
+  where
+    go : (b : Bool) → cond b (leakBySecond (cond b own nought) t) (leakByFirst t) ≡ cond b (leakBySecond own t) (leakByFirst t)
+    go true = refl
+    go false = refl
+
 -- ---- as the code comes to it: two entries as they were read
 module _ (file : List ℕ) (table bounds own : List Float) (g : Gathering file table bounds own) (i j : ℕ) (hi : i < countOf file) (hj : j < countOf file) where
   pub tally-fits : {e f : Entry} {whole : Box} → e ≡ entryAt file i → f ≡ entryAt file j → whole ≡ boxIn own j →
@@ -188,9 +217,13 @@ module _ (file : List ℕ) (i j : ℕ) where
   pub no-item : {f : Entry} {b : Bool} → f ≡ entryAt file j → b ≡ isTraining (f .set) → b ≡ false → nothing ≡ itemOf file i j
   no-item hf hb z = sym (in-item hf hb z)
 
-  pub an-item : {e f : Entry} {b : Bool} {t : Tally} → e ≡ entryAt file i → f ≡ entryAt file j → b ≡ isTraining (f .set) → b ≡ true → t ≡ tallyFor file (i, j) → foundOn (e .id) (f .id) t ≡ itemOf file i j
-  unfolding foundFor
-  an-item he hf hb z ht = rw (he, hf, ht) (sym (in-item refl (hb ∙ ap (λ f. isTraining (f .set)) hf) z))
+  -- what is found by the area that is asked for is what is found by the own area
+  found-same-by : foundOn (entryAt file i) (areaFor file i) (entryAt file j .id) (tallyFor file (i, j)) ≡ foundFor file (i, j)
+  unfolding foundFor areaFor
+  found-same-by = ap (λ b. foundBy (cond b (record { test = entryAt file i .id; train = entryAt file j .id; pairs = tallyFor file (i, j) .overlapping } ∷ []) []) (once (onlyTouch (tallyFor file (i, j)))) (tallyFor file (i, j) .tested)) (asked-same (entryAt file i .last) (ownFor file i) (tallyFor file (i, j)))
+
+  pub an-item : {e f : Entry} {area : Float} {b : Bool} {t : Tally} → e ≡ entryAt file i → area ≡ areaFor file i → f ≡ entryAt file j → b ≡ isTraining (f .set) → b ≡ true → t ≡ tallyFor file (i, j) → foundOn e area (f .id) t ≡ itemOf file i j
+  an-item he ha hf hb z ht = rw (he, ha, hf, ht) (found-same-by ∙ sym (in-item refl (hb ∙ ap (λ f. isTraining (f .set)) hf) z))
 
   -- how many of its triangle pairs were given to the triangle rules
   pub item-tested : {f : Entry} {b : Bool} {t : Tally} → f ≡ entryAt file j → b ≡ isTraining (f .set) → b ≡ true → t ≡ tallyFor file (i, j) → t .tested ≡ itemOf file i j .tested
@@ -202,13 +235,20 @@ module _ (file : List ℕ) (i j : ℕ) where
   unfolding itemOf foundFor
   empty-item h = rw h (go (isTraining (entryAt file j .set)))
     where
-      go : (b : Bool) → nothing ≡ cond b (foundOn (entryAt file i .id) (entryAt file j .id) noneYet) nothing
-      go true = refl
+      none : leak (entryAt file i .last) (ownFor file i) noneYet ≡ false
+      none = by (isSecond (entryAt file i .last))
+        where
+          by : (b : Bool) → cond b (leakBySecond (ownFor file i) noneYet) (leakByFirst noneYet) ≡ false
+          by true = no-leak (ownFor file i) noneYet (unfold ownFor in own-not-below file (entryAt file i)) refl refl
+          by false = refl
+
+      go : (b : Bool) → nothing ≡ cond b (foundOn (entryAt file i) (ownFor file i) (entryAt file j .id) noneYet) nothing
+      go true = sym (ap (λ l. foundBy (cond l (record { test = entryAt file i .id; train = entryAt file j .id; pairs = 0 } ∷ []) []) 0 0) none)
       go false = refl
 
 -- a leak added, and one more that only touches, if they do, and the pairs that were tested
-pub pair-added : (before : Found) (test train : ℕ) (t : Tally) {ls : List Leak} {more n k : ℕ} → ls ≡ before .leaks ++ leakOn test train t → more ≡ once (onlyTouch t) → n ≡ before .touching + more → k ≡ before .tested + t .tested → foundBy ls n k ≡ together before (foundOn test train t)
-pair-added before test train t p q r u = found-same p (r ∙ ap (λ k. before .touching + k) q) u
+pub pair-added : (before : Found) (e : Entry) (own : Float) (train : ℕ) (t : Tally) {ls : List Leak} {more n k : ℕ} → ls ≡ before .leaks ++ leakOn e own train t → more ≡ once (onlyTouch t) → n ≡ before .touching + more → k ≡ before .tested + t .tested → foundBy ls n k ≡ together before (foundOn e own train t)
+pair-added before e own train t p q r u = found-same p (r ∙ ap (λ k. before .touching + k) q) u
 
 -- what is gathered in several steps
 pub with-nothing : (a : Found) {item : Found} → nothing ≡ item → a ≡ together a item

@@ -1,6 +1,7 @@
 pub mod Table
 pub mod Counted
 pub mod Triples
+pub mod Sizes
 pub mod Gathered
 pub mod Frames
 pub mod Most

@@ -1,12 +1,14 @@
 -- One more leak, stored as three numbers behind those before it; none, where the two recordings do not leak. Assumes nothing.
 use Prim.Native.Nat.{ℕ, zero, suc, _+_, _*_, _<_, _≤_}
 use mathlib.Core.Path.{_≡_, refl, sym, ap, ap₂, _∙_}
-use mathlib.Core.Bool.{Bool, true, false}
+use mathlib.Core.Bool.{Bool, true, false, cond}
 use mathlib.Core.List.{List, [], _∷_, _++_, append-nil}
 use native.Mathlib.Omega.{arith}
 use native.Mathlib.Numerals.{add-one}
 use lib.ListN.{length, getD, set, length-set}
 use lib.Seq.{getD-set-same, getD-set-other}
+use lib.Ieee.{Float}
+use Rattle.layout.specs.declared.Entry.{Entry}
 use Rattle.listing.specs.declared.Tally.{Tally}
 use Rattle.listing.specs.Pairs.{leak}
 use Rattle.listing.specs.Leaks.{Leak}
@@ -67,9 +69,10 @@ three-more l k t r n fits = leaks-suc l3 k ∙ ap₂ _++_ (kept-to k k l l3 (ome
     third : getD (set (set (set l (3 * k) t) (3 * k + 1) r) (3 * k + 2) n) (3 * k + 2) 0 ≡ n
     third = getD-set-same (set (set l (3 * k) t) (3 * k + 1) r) (3 * k + 2) n 0 (omega (arith, fits, len2))
 
-pub added : (l : List ℕ) (k test train : ℕ) (t : Tally) {b : Bool} → b ≡ leak t → b ≡ true → 3 * k + 3 ≤ length l → leaksIn (set (set (set l (3 * k) test) (3 * k + 1) train) (3 * k + 2) (t .overlapping)) (k + 1) ≡ leaksIn l k ++ leakOn test train t
+pub added : (l : List ℕ) (k : ℕ) (e : Entry) (own : Float) (train : ℕ) (t : Tally) {b : Bool} → b ≡ leak (e .last) own t → b ≡ true → 3 * k + 3 ≤ length l → leaksIn (set (set (set l (3 * k) (e .id)) (3 * k + 1) train) (3 * k + 2) (t .overlapping)) (k + 1) ≡ leaksIn l k ++ leakOn e own train t
 unfolding leakBy
-added l k test train t e h fits = three-more l k test train (t .overlapping) fits ∙ ap (λ x. leaksIn l k ++ x) (sym (rw (sym e ∙ h) refl))
+added l k e own train t q h fits = three-more l k (e .id) train (t .overlapping) fits ∙ ap (λ x. leaksIn l k ++ x) (sym (ap (λ c. cond c (leakBy (e .id) train (t .overlapping) ∷ []) []) (sym q ∙ h)))
 
-pub not-added : (l : List ℕ) (k test train : ℕ) (t : Tally) {b : Bool} → b ≡ leak t → b ≡ false → leaksIn l k ≡ leaksIn l k ++ leakOn test train t
-not-added l k test train t e h = sym (ap (λ x. leaksIn l k ++ x) (rw (sym e ∙ h) refl) ∙ append-nil (leaksIn l k))
+pub not-added : (l : List ℕ) (k : ℕ) (e : Entry) (own : Float) (train : ℕ) (t : Tally) {b : Bool} → b ≡ leak (e .last) own t → b ≡ false → leaksIn l k ≡ leaksIn l k ++ leakOn e own train t
+unfolding leakBy
+not-added l k e own train t q h = sym (ap (λ x. leaksIn l k ++ x) (ap (λ c. cond c (leakBy (e .id) train (t .overlapping) ∷ []) []) (sym q ∙ h)) ∙ append-nil (leaksIn l k))

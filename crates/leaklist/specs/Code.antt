@@ -1,31 +1,34 @@
--- The steps of the writer: prepared triangles and boxes, counts from them, leaks recording by recording. That they come to the list of the rules is the writer's promise. Definitions only.
+-- The steps of the writer: prepared triangles and boxes, counts and own areas from them, leaks recording by recording. That they come to the list of the rules is the writer's promise. Definitions only.
 use Prim.Native.Nat.{ℕ, zero, suc, _+_, _*_, _/_, _<_}
 use mathlib.Core.Path.{_≡_}
-use mathlib.Core.Bool.{true, cond}
+use mathlib.Core.Bool.{true, cond, _||_}
 use mathlib.Core.List.{List, [], _∷_, _++_, map, List·Memᴰ}
 use lib.Dec.{eqb}
 use lib.ListN.{length, getD}
-use lib.Ieee.{Float, nan}
-use Rattle.floats.specs.Finite.{finite}
+use lib.Ieee.{Float, nan, binary64, add, mul}
+use Rattle.floats.specs.Finite.{finite, nought}
 use Rattle.floats.specs.declared.Position.{Position}
 use Rattle.triangles.specs.declared.Decision.{Decision}
-use Rattle.triangles.specs.Decision.{overlaps, touches}
+use Rattle.triangles.specs.Positions.{half}
+use Rattle.triangles.specs.Decision.{overlaps, touches, isRefused, withArea}
 use Rattle.shapes.specs.declared.Shape.{Shape}
 use Rattle.shapes.specs.Shapes.{shapeOf, Made, sixOf, twelve}
 use Rattle.boxes.specs.declared.Box.{Box}
 use Rattle.boxes.specs.Boxes.{boxOf}
 use Rattle.boxed.specs.Tables.{boxIn, boxOver}
+use Rattle.layout.specs.declared.Entry.{Entry}
 use Rattle.layout.specs.Parts.{countOf, entryAt, trianglesOf}
 use Rattle.layout.specs.Layout.{Layout}
 use Rattle.layout.specs.Recordings.{f64At}
 use Rattle.layout.specs.Verdict.{numberAt}
 use Rattle.floats.specs.Lists.{once, count}
 use Rattle.sets.specs.Sets.{isTest, isTraining, isRetired}
+use Rattle.sets.specs.Editions.{isSecond}
 use Rattle.listing.specs.declared.Tally.{Tally}
 use Rattle.listing.specs.declared.Counts.{Counts}
 use Rattle.listing.specs.Turns.{upTo, each, folded}
-use Rattle.listing.specs.Pairs.{tallied, noneYet, leak, onlyTouch}
-use Rattle.listing.specs.Leaks.{Leak, tallyFor, leaks, touching, tested}
+use Rattle.listing.specs.Pairs.{tallied, noneYet, absolute, leak, onlyTouch}
+use Rattle.listing.specs.Leaks.{Leak, tallyFor, ownFor, leaks, touching, tested}
 use Rattle.listing.specs.Words.{listText, refusedLine}
 use Rattle.listing.specs.Listing.{listOf}
 use Rattle.writing.specs.Triples.{leaksIn}
@@ -89,13 +92,32 @@ valuesIn table i j = twelve (shapeIn table i) (shapeIn table j)
 unfoldable pub rowIn : List Float → ℕ → ℕ → ℕ → List (List Float)
 rowIn table i j n = map (λ b. valuesIn table i (j + b)) (upTo n)
 
--- one more pair counted that was given to the triangle rules, by what they decide
+-- one more pair that was given to the triangle rules, by what they decide
 abbrev pub talliedNear : Tally → Decision → Tally
-talliedNear t d = record { overlapping = t .overlapping + once (overlaps d); touching = t .touching + once (touches d); tested = t .tested + 1 }
+talliedNear t d = record { overlapping = t .overlapping + once (overlaps d); touching = t .touching + once (touches d); tested = t .tested + 1; refused = t .refused || isRefused d; area = withArea (t .area) d }
 
 unfoldable pub tallyIn : List Float → ℕ → ℕ → ℕ → ℕ → Tally
 unfolding rowIn
 tallyIn table i m j n = folded tallied noneYet (each (λ a. rowIn table (i + a) j n) (upTo m))
+
+-- ---- the own area of n triangles from i on, from their crosses in the table
+abbrev pub sizeIn : List Float → ℕ → Float
+sizeIn table k = absolute (getD table (11 * k + 10) nan)
+
+unfoldable pub sumIn : List Float → ℕ → ℕ → Float
+sumIn table i n = folded (add binary64) nought (map (λ a. sizeIn table (i + a)) (upTo n))
+
+abbrev pub ownIn : List Float → ℕ → ℕ → Float
+ownIn table i n = mul binary64 half (sumIn table i n)
+
+-- of a recording, where its edition asks for it; else 0.0, which nothing asks for
+abbrev pub askedIn : List Float → Entry → Float
+askedIn table e = cond (isSecond (e .last)) (ownIn table (e .first / 24) (e .count)) nought
+
+-- the same of recording i by the rules
+unfoldable pub areaFor : List ℕ → ℕ → Float
+unfolding ownFor
+areaFor file i = cond (isSecond (entryAt file i .last)) (ownFor file i) nought
 
 -- ---- what the gathering of leaks goes by: a good file, all of its triangles in the table, and all boxes in theirs
 pub record Gathering (file : List ℕ) (table bounds own : List Float) : Type 0 where
@@ -122,19 +144,19 @@ nothing = record { leaks = []; touching = 0; tested = 0 }
 abbrev pub together : Found → Found → Found
 together a b = record { leaks = a .leaks ++ b .leaks; touching = a .touching + b .touching; tested = a .tested + b .tested }
 
--- of two recordings with these ids, of which this is counted: the leak, if they leak
-abbrev pub leakOn : ℕ → ℕ → Tally → List Leak
-leakOn test train t = cond (leak t) (record { test = test; train = train; pairs = t .overlapping } ∷ []) []
+-- of a test recording with this own area and a training recording with this id, of which this is kept: the leak, if they leak
+abbrev pub leakOn : Entry → Float → ℕ → Tally → List Leak
+leakOn e own train t = cond (leak (e .last) own t) (record { test = e .id; train = train; pairs = t .overlapping } ∷ []) []
 
 -- and what is found
-abbrev pub foundOn : ℕ → ℕ → Tally → Found
-foundOn test train t = record { leaks = leakOn test train t; touching = once (onlyTouch t); tested = t .tested }
+abbrev pub foundOn : Entry → Float → ℕ → Tally → Found
+foundOn e own train t = record { leaks = leakOn e own train t; touching = once (onlyTouch t); tested = t .tested }
 
 module _ (file : List ℕ) where
   -- of a test and a training recording
   unfoldable pub foundFor : ℕ × ℕ → Found
-  unfolding tallyFor
-  foundFor p = foundOn (entryAt file (p .0) .id) (entryAt file (p .1) .id) (tallyFor file p)
+  unfolding tallyFor ownFor
+  foundFor p = foundOn (entryAt file (p .0)) (ownFor file (p .0)) (entryAt file (p .1) .id) (tallyFor file p)
 
   -- of the recordings i, a test recording, and j, if that is a training recording
   unfoldable pub itemOf : ℕ → ℕ → Found

@@ -7,17 +7,18 @@ ghost use Rattle.layout.specs.Parts.{countOf, entryAt, tablePlace};
 ghost use Rattle.boxed.specs.Tables.{boxIn};
 ghost use Rattle.listing.specs.Leaks.{formerlyHeldBack};
 ghost use Rattle.writing.specs.Triples.{leaksIn};
-ghost use Rattle.leaklist.specs.Code.{Gathering, foundIn, together, leakOn, itemOf, rowTo, testOf, listTo};
+ghost use Rattle.leaklist.specs.Code.{Gathering, foundIn, together, areaFor, leakOn, itemOf, rowTo, testOf, listTo};
+use crate::areas::asked_area;
 use crate::tallies::tally;
 
-// One more leak, if the two recordings leak; how many there are then.
-fn add(found: &mut [u32], k: u32, test: u32, train: u32, t: listing::Tally) -> u32
+// One more leak, if the test recording e, of this own area, and the training recording leak; how many there are then.
+fn add(found: &mut [u32], k: u32, e: layout::Entry, area: f64, train: u32, t: listing::Tally) -> u32
     requires { ⌜ (k < 4096) × (length (now found) ≡ 12288) ⌝ }
-    ensures { λ r. ⌜ (leaksIn (now (found .exit)) r ≡ leaksIn (now (found .entry)) k ++ leakOn test train t) × (r ≤ k + 1) ⌝ }
+    ensures { λ r. ⌜ (leaksIn (now (found .exit)) r ≡ leaksIn (now (found .entry)) k ++ leakOn e area train t) × (r ≤ k + 1) ⌝ }
 {
-    if counting::leak(t) {
+    if counting::leak(e.last, area, t) {
         let at = 3 * (k as usize);
-        found[at] = test;
+        found[at] = e.id;
         found[at + 1] = train;
         found[at + 2] = t.overlapping;
         return k + 1;
@@ -25,7 +26,7 @@ fn add(found: &mut [u32], k: u32, test: u32, train: u32, t: listing::Tally) -> u
     k
 }
 
-// The test recording i with recording j, whose own box is `whole`.
+// The test recording i, of which `area` is the own area where its edition asks for it, with recording j, whose own box is `whole`.
 fn add_near(
     file: &[u8],
     table: &[f64],
@@ -35,11 +36,12 @@ fn add_near(
     c: listing::Counts,
     i: usize,
     e: layout::Entry,
+    area: f64,
     at: usize,
     j: usize,
     whole: boxes::Box,
 ) -> listing::Counts
-    requires { ⌜ Gathering (now file) (now table) (now bounds) (now own) × (i < countOf (now file)) × (e ≡ entryAt (now file) i) × (at ≡ tablePlace (now file)) × (j < countOf (now file)) × (c .leaks < 4096) × (c .touching < 4096) × (c .tested + itemOf (now file) i j .tested ≤ 4294967295) × (length (now found) ≡ 12288) × (whole ≡ boxIn (now own) j) ⌝ }
+    requires { ⌜ Gathering (now file) (now table) (now bounds) (now own) × (i < countOf (now file)) × (e ≡ entryAt (now file) i) × (at ≡ tablePlace (now file)) × (j < countOf (now file)) × (c .leaks < 4096) × (c .touching < 4096) × (c .tested + itemOf (now file) i j .tested ≤ 4294967295) × (length (now found) ≡ 12288) × (whole ≡ boxIn (now own) j) × (area ≡ areaFor (now file) i) ⌝ }
     ensures { λ r. ⌜ (foundIn (now (found .exit)) r ≡ together (foundIn (now (found .entry)) c) (itemOf (now (file .entry)) i j)) × (r .leaks ≤ c .leaks + 1) × (r .touching ≤ c .touching + 1) ⌝ }
 {
     let f = reading::entry_at(file, at + 12 * j);
@@ -56,7 +58,7 @@ fn add_near(
         let more = counting::one_if(counting::only_touch(t));
         let touching = c.touching + more;
         let tested = c.tested + t.tested;
-        let leaks = add(found, c.leaks, e.id, f.id, t);
+        let leaks = add(found, c.leaks, e, area, f.id, t);
         return listing::Counts {
             leaks,
             touching,
@@ -76,15 +78,16 @@ fn add_pair(
     c: listing::Counts,
     i: usize,
     e: layout::Entry,
+    area: f64,
     at: usize,
     j: usize,
 ) -> listing::Counts
-    requires { ⌜ Gathering (now file) (now table) (now bounds) (now own) × (i < countOf (now file)) × (e ≡ entryAt (now file) i) × (at ≡ tablePlace (now file)) × (j < countOf (now file)) × (c .leaks < 4096) × (c .touching < 4096) × (c .tested + itemOf (now file) i j .tested ≤ 4294967295) × (length (now found) ≡ 12288) ⌝ }
+    requires { ⌜ Gathering (now file) (now table) (now bounds) (now own) × (i < countOf (now file)) × (e ≡ entryAt (now file) i) × (at ≡ tablePlace (now file)) × (j < countOf (now file)) × (c .leaks < 4096) × (c .touching < 4096) × (c .tested + itemOf (now file) i j .tested ≤ 4294967295) × (length (now found) ≡ 12288) × (area ≡ areaFor (now file) i) ⌝ }
     ensures { λ r. ⌜ (foundIn (now (found .exit)) r ≡ together (foundIn (now (found .entry)) c) (itemOf (now (file .entry)) i j)) × (r .leaks ≤ c .leaks + 1) × (r .touching ≤ c .touching + 1) ⌝ }
 {
     let whole = boxed::box_at(own, j);
     if boxes::share_point(boxed::box_at(own, i), whole) {
-        return add_near(file, table, bounds, own, found, c, i, e, at, j, whole);
+        return add_near(file, table, bounds, own, found, c, i, e, area, at, j, whole);
     }
     c
 }
@@ -99,16 +102,17 @@ fn add_row(
     c: listing::Counts,
     i: usize,
     e: layout::Entry,
+    area: f64,
     at: usize,
     count: usize,
 ) -> listing::Counts
-    requires { ⌜ Gathering (now file) (now table) (now bounds) (now own) × (i < countOf (now file)) × (e ≡ entryAt (now file) i) × (at ≡ tablePlace (now file)) × (count ≡ countOf (now file)) × (c .leaks + 64 ≤ 4096) × (c .touching + 64 ≤ 4096) × (c .tested + rowTo (now file) i (countOf (now file)) .tested ≤ 4294967295) × (length (now found) ≡ 12288) ⌝ }
+    requires { ⌜ Gathering (now file) (now table) (now bounds) (now own) × (i < countOf (now file)) × (e ≡ entryAt (now file) i) × (at ≡ tablePlace (now file)) × (count ≡ countOf (now file)) × (c .leaks + 64 ≤ 4096) × (c .touching + 64 ≤ 4096) × (c .tested + rowTo (now file) i (countOf (now file)) .tested ≤ 4294967295) × (length (now found) ≡ 12288) × (area ≡ areaFor (now file) i) ⌝ }
     ensures { λ r. ⌜ (foundIn (now (found .exit)) r ≡ together (foundIn (now (found .entry)) c) (rowTo (now (file .entry)) i (countOf (now (file .entry))))) × (r .leaks ≤ c .leaks + 64) × (r .touching ≤ c .touching + 64) ⌝ }
 {
     let mut to = c;
     let mut j: usize = 0;
     while j < count {
-        to = add_pair(file, table, bounds, own, found, to, i, e, at, j);
+        to = add_pair(file, table, bounds, own, found, to, i, e, area, at, j);
         j = j + 1;
     }
     to
@@ -131,7 +135,8 @@ fn add_test(
 {
     let e = reading::entry_at(file, at + 12 * i);
     if sets::is_test(e.set) {
-        return add_row(file, table, bounds, own, found, c, i, e, at, count);
+        let area = asked_area(table, e);
+        return add_row(file, table, bounds, own, found, c, i, e, area, at, count);
     }
     c
 }

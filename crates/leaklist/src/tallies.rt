@@ -1,4 +1,4 @@
-// Pairs of prepared triangles, counted. Those whose boxes share no point are passed over: they add nothing to any count.
+// Pairs of prepared triangles: what is kept of them. Those whose boxes share no point are passed over: they add nothing to any count and have no area.
 ghost use mathlib.Core.Path.{_≡_};
 ghost use Prim.Native.Nat.{_+_, _≤_, _<_};
 ghost use lib.ListN.{length};
@@ -8,7 +8,7 @@ ghost use Rattle.boxed.specs.Tables.{boxOver};
 ghost use Rattle.leaklist.specs.Code.{ReadyAt, ReadyFrom, talliedNear, rowIn, tallyIn};
 use crate::prepared::shape_in;
 
-// One more pair counted that was given to the triangle rules, by what they decide.
+// One more pair that was given to the triangle rules, by what they decide.
 fn tallied(t: listing::Tally, d: triangles::Decision) -> listing::Tally
     requires { ⌜ (t .overlapping < 4294967295) × (t .touching < 4294967295) × (t .tested < 4294967295) ⌝ }
     ensures { λ r. ⌜ (r ≡ talliedNear t d) × (r .overlapping ≤ t .overlapping + 1) × (r .touching ≤ t .touching + 1) × (r .tested ≤ t .tested + 1) ⌝ }
@@ -16,10 +16,14 @@ fn tallied(t: listing::Tally, d: triangles::Decision) -> listing::Tally
     let overlapping = t.overlapping + counting::one_if(decisions::overlaps(d));
     let touching = t.touching + counting::one_if(decisions::touches(d));
     let tested = t.tested + 1;
+    let refused = t.refused | decisions::is_refused(d);
+    let area = decisions::with_area(t.area, d);
     listing::Tally {
         overlapping,
         touching,
         tested,
+        refused,
+        area,
     }
 }
 
@@ -65,6 +69,8 @@ pub(crate) fn tally(
         overlapping: 0,
         touching: 0,
         tested: 0,
+        refused: false,
+        area: 0.0,
     };
     let mut a = boxed::next_near(bounds, whole, i, end);
     while a < end {

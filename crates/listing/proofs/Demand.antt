@@ -1,25 +1,30 @@
--- Demand 2 of the list: a line for exactly the recordings that leak, in table order, each once, with how many of their triangle pairs overlap; exactly those that only touch are counted, each once, and exactly the recordings that are stored with set 2; and exactly the triangle pairs whose boxes share a point are counted as tested, each once. Assumes nothing.
+-- Demand 2 of the list: a line for exactly the recordings that leak by the edition of the test recording, in table order, each once, with how many of their triangle pairs overlap; exactly those that only touch are counted, each once, and exactly the recordings that are stored with set 2; and exactly the triangle pairs whose boxes share a point are counted as tested, each once. Assumes nothing.
 use Prim.Native.Nat.{ℕ, zero, suc, _+_, _<_}
 use mathlib.Core.Path.{_≡_, refl, sym, ap, subst, _∙_}
 use mathlib.Core.Logic.{_⊎_, inl, inr, _↔_}
-use mathlib.Core.Bool.{Bool, true, false, _&&_, false≢true}
+use mathlib.Core.Bool.{Bool, true, false, _&&_, _||_, cond, false≢true}
 use mathlib.Core.List.{List, map, List·Memᴰ}
 use native.Mathlib.Omega.{arith}
 use lib.Dec.{eqb, ltb}
 use borrow.Author.Tests.{ltb-true, lt-ltb, eqb-true, eqb-false, eq-eqb}
 use lib.ListN.{length, getD, length-map}
-use Rattle.floats.specs.Lists.{count, filter}
+use lib.Ieee.{binary64, mul, lt}
+use Rattle.floats.specs.Lists.{count, filter, any}
 use Rattle.triangles.specs.declared.Decision.{Decision}
-use Rattle.triangles.specs.Decision.{overlaps, touches}
+use Rattle.triangles.specs.declared.Decision.the-variants.{Refused, Overlapping, Touching, Apart}
+use Rattle.triangles.specs.Decision.{overlaps, touches, isRefused}
+use Rattle.triangles.specs.Pair.{eOfU}
+use Rattle.layout.proofs.Tests.{some-to, some-from}
 use Rattle.layout.specs.Parts.{countOf, entryAt}
 use Rattle.listing.specs.Turns.{upTo, each, folded}
 use Rattle.sets.specs.Sets.{isTest, isTraining, isRetired, TrainingSet}
 use Rattle.sets.proofs.Sets.{all-roles}
-use Rattle.listing.specs.Pairs.{decisionAt, nearAt, trianglePairs, decisions}
-use Rattle.listing.specs.Leaks.{tests, trainings, recordingPairs, tallyFor, isLeak, leakPairs, leakOf, leaks, isTouching, touchingPairs, touching, allPairs, isTested, testedPairs, tested, formerly, formerlyHeldBack}
-use Rattle.listing.specs.Demand.{Compared, SomePair, Leaking, OnlyTouching, Tested, InTableOrder, AllDecided, lineFor, testedFor, noLeak, DemandTwo}
+use Rattle.listing.specs.Pairs.{placeIn, coordinatesAt, valuesAt, decisionAt, nearAt, trianglePairs, decisions, eAt, sizesOf, ownArea, leakByFirst, hundred, leakBySecond}
+use Rattle.listing.specs.Leaks.{tests, trainings, recordingPairs, tallyFor, ownFor, isLeak, leakPairs, leakOf, leaks, isTouching, touchingPairs, touching, allPairs, isTested, testedPairs, tested, formerly, formerlyHeldBack}
+use Rattle.listing.specs.Demand.{RefusedPair, sumOfAreas, Compared, SomePair, FirstLeak, SecondLeak, Leaking, OnlyTouching, Tested, InTableOrder, AllDecided, lineFor, testedFor, noLeak, DemandTwo}
 use Rattle.listing.proofs.Turns.{below, reached, kept, passed, mapped, unmapped, in-each, of-each, Sorted, sorted-filter, sorted-map, sorted-each, sorted-upTo, sorted-at, sorted-once, map-at, map-same, filter-count, count-each}
-use Rattle.listing.proofs.Tallied.{count-map, tally-overlapping, tally-touching, tally-tested, counted-one, one-counted, pair-in, pair-of, decision-in, decision-of, how-many, in-turn}
+use Rattle.listing.proofs.Editions.{second-above, second-refused, second-first, by-first, by-second}
+use Rattle.listing.proofs.Tallied.{count-map, tally-overlapping, tally-touching, tally-tested, tally-area, tally-refused, counted-one, one-counted, pair-in, pair-of, decision-in, decision-of, how-many, in-turn}
 
 -- what is not none is some
 positive : (n : ℕ) → (n ≡ 0 → ⊥) → 0 < n
@@ -134,16 +139,89 @@ module _ (file : List ℕ) where
         let d = decision-in file (entryAt file i) (entryAt file j) (q .0) (q .1) (q .2) (q .3) in
         subst (λ n. 0 < n) (sym e) (counted-one p (decisions file (entryAt file i) (entryAt file j)) d (q .4))
 
+  -- ---- the sum of the areas, what is refused, and the own area
+  summed : (i j : ℕ) → tallyFor file (i, j) .area ≡ sumOfAreas file i j
+  unfolding tallyFor sumOfAreas
+  summed i j = tally-area file (entryAt file i) (entryAt file j)
+
+  refused-one : (i j : ℕ) → (tallyFor file (i, j) .refused ≡ true) ↔ SomePair file i j (RefusedPair file i j)
+  unfolding tallyFor
+  refused-one i j = (to, from)
+    where
+      is : (d : Decision) → isRefused d ≡ true → (k : ℕ) × (d ≡ Refused k)
+      is (Refused k) h = (k, refl)
+      is (Overlapping a) h = absurd (false≢true h)
+      is Touching h = absurd (false≢true h)
+      is Apart h = absurd (false≢true h)
+
+      to : tallyFor file (i, j) .refused ≡ true → SomePair file i j (RefusedPair file i j)
+      to h =
+          let o = some-to isRefused (decisions file (entryAt file i) (entryAt file j)) (sym (tally-refused file (entryAt file i) (entryAt file j)) ∙ h) in
+          let d = decision-of file (entryAt file i) (entryAt file j) (o .1) in
+          let k = is (o .0) (o .2) in
+          (d .0, d .1, d .2, d .3, (k .0, sym (d .4) ∙ k .1))
+
+      from : SomePair file i j (RefusedPair file i j) → tallyFor file (i, j) .refused ≡ true
+      from q =
+          tally-refused file (entryAt file i) (entryAt file j)
+          ∙ some-from isRefused (decisions file (entryAt file i) (entryAt file j)) (decision-in file (entryAt file i) (entryAt file j) (q .0) (q .1) (q .2) (q .3)) (ap isRefused (q .4 .1))
+
+  same-e : (i j a b : ℕ) → eAt file (placeIn (entryAt file i) a) ≡ eOfU (valuesAt file (entryAt file i) (entryAt file j) a b) .value
+  unfolding eAt eOfU valuesAt coordinatesAt
+  same-e i j a b = refl
+
   -- ---- a line exactly if they leak
+  pub any-leaks : (i j : ℕ) → leakByFirst (tallyFor file (i, j)) ≡ true → FirstLeak file i j
+  any-leaks i j h = there-is overlaps i j (counted i j) (ltb-true 0 (tallyFor file (i, j) .overlapping) h)
+
+  pub leaks-any : (i j : ℕ) → FirstLeak file i j → leakByFirst (tallyFor file (i, j)) ≡ true
+  leaks-any i j h = lt-ltb 0 (tallyFor file (i, j) .overlapping) (some-counted overlaps i j (counted i j) h)
+
   leaking : (i j : ℕ) → List·Memᴰ (i, j) (leakPairs file) → Leaking file i j
   unfolding leakPairs
   leaking i j m =
       let r = passed (isLeak file) (recordingPairs file) m in
-      record { compared = in-pairs (r .0); pair = there-is overlaps i j (counted i j) (ltb-true 0 (tallyFor file (i, j) .overlapping) (r .1)) }
+      let last = entryAt file i .last in
+      let t = tallyFor file (i, j) in
+      record {
+        compared = in-pairs (r .0);
+        first = λ n. any-leaks i j (sym (by-first last (ownFor file i) t n) ∙ r .1);
+        second = λ e. more (t .refused) refl (sym (by-second last (ownFor file i) t e) ∙ r .1);
+      }
+    where
+      more : (b : Bool) → tallyFor file (i, j) .refused ≡ b → (b || lt (ownFor file i) (mul binary64 hundred (tallyFor file (i, j) .area))) ≡ true → SecondLeak file i j
+      more true e h = inr (refused-one i j .0 e)
+      more false e h = inl (subst (λ s. lt (ownFor file i) (mul binary64 hundred s) ≡ true) (summed i j) h)
+
+  by-either : (i j : ℕ) → Leaking file i j → isLeak file (i, j) ≡ true
+  by-either i j h = go (eqb (entryAt file i .last) 1) refl
+    where
+      more : SecondLeak file i j → leakBySecond (ownFor file i) (tallyFor file (i, j)) ≡ true
+      more (inl a) = second-above (ownFor file i) (tallyFor file (i, j)) (subst (λ s. lt (ownFor file i) (mul binary64 hundred s) ≡ true) (sym (summed i j)) a)
+      more (inr p) = second-refused (ownFor file i) (tallyFor file (i, j)) (refused-one i j .1 p)
+
+      go : (b : Bool) → eqb (entryAt file i .last) 1 ≡ b → isLeak file (i, j) ≡ true
+      go true e = let q = eqb-true (entryAt file i .last) 1 e in by-second (entryAt file i .last) (ownFor file i) (tallyFor file (i, j)) q ∙ more (h .second q)
+      go false e =
+          let n = eqb-false (entryAt file i .last) 1 e in
+          by-first (entryAt file i .last) (ownFor file i) (tallyFor file (i, j)) n ∙ leaks-any i j (h .first n)
 
   stands : (i j : ℕ) → Leaking file i j → List·Memᴰ (i, j) (leakPairs file)
   unfolding leakPairs
-  stands i j h = kept (isLeak file) (recordingPairs file) (a-pair i j (h .compared)) (lt-ltb 0 (tallyFor file (i, j) .overlapping) (some-counted overlaps i j (counted i j) (h .pair)))
+  stands i j h = kept (isLeak file) (recordingPairs file) (a-pair i j (h .compared)) (by-either i j h)
+
+  -- by either edition a leak is one by edition 1
+  always-first : (p : ℕ × ℕ) → isLeak file p ≡ true → leakByFirst (tallyFor file p) ≡ true
+  unfolding tallyFor ownFor
+  always-first p h = go (eqb (entryAt file (p .0) .last) 1) h
+    where
+      go : (b : Bool) → cond b (leakBySecond (ownFor file (p .0)) (tallyFor file p)) (leakByFirst (tallyFor file p)) ≡ true → leakByFirst (tallyFor file p) ≡ true
+      go true h = second-first file (entryAt file (p .0)) (entryAt file (p .0)) (entryAt file (p .1)) h
+      go false h = h
+
+  pub also-by-first : (p : ℕ × ℕ) → List·Memᴰ p (leakPairs file) → leakByFirst (tallyFor file p) ≡ true
+  unfolding leakPairs
+  also-by-first p m = always-first p (passed (isLeak file) (recordingPairs file) m .1)
 
   -- ---- counted as touching exactly if they only touch
   both : (a b : Bool) → (a && b) ≡ true → (a ≡ true) × (b ≡ true)
@@ -276,6 +354,12 @@ demand2 file = record {
   named = named file;
   counted = counted file;
   decided = all-decided file;
+  summed = summed file;
+  refusedOne = refused-one file;
+  own = λ i. unfold ownFor ownArea sizesOf in refl;
+  sameE = same-e file;
+  someOverlap = λ i j h. any-leaks file i j (always-first file (i, j) (by-either file i j h));
+  alsoByFirst = λ i j. also-by-first file (i, j);
   touchingExactlyIf = λ i j. (only-touching file i j, is-counted file i j);
   touchingInOrder = unfold touchingPairs in in-order file (isTouching file);
   touchingOnce = unfold touchingPairs in once file (isTouching file);

@@ -12,10 +12,10 @@ use Rattle.layout.specs.Parts.{countOf, entryAt}
 use Rattle.layout.specs.Layout.{Layout}
 use Rattle.sets.specs.Sets.{isTest, isTraining}
 use Rattle.sets.proofs.Sets.{all-roles}
-use Rattle.listing.specs.Leaks.{Leak, tests, trainings, recordingPairs, tallyFor, isLeak, leakPairs, leakOf, leaks}
+use Rattle.listing.specs.Leaks.{Leak, tests, trainings, tallyFor, leakPairs, leakOf, leaks}
 use Rattle.listing.specs.Demand.{Leaking, lineFor, noLeak, LinesById, AllTakePart}
-use Rattle.listing.proofs.Turns.{passed, unmapped, member-at, mapped}
-use Rattle.listing.proofs.Demand.{in-tests, in-trainings, a-test, a-training, demand2}
+use Rattle.listing.proofs.Turns.{unmapped, member-at, mapped}
+use Rattle.listing.proofs.Demand.{in-tests, in-trainings, a-test, a-training, also-by-first, demand2}
 
 module _ (file : List ℕ) (good : Layout file) where
   same-id : (i j : ℕ) → i < countOf file → j < countOf file → entryAt file i .id ≡ entryAt file j .id → i ≡ j
@@ -71,8 +71,7 @@ module _ (file : List ℕ) (good : Layout file) where
       d .once k l m n (ap₂ (λ i j. (i, j)) first second)
 
   some-pair : {p : ℕ × ℕ} → List·Memᴰ p (leakPairs file) → 0 < tallyFor file p .overlapping
-  unfolding leakPairs
-  some-pair {p} m = ltb-true 0 (tallyFor file p .overlapping) (passed (isLeak file) (recordingPairs file) m .1)
+  some-pair {p} m = ltb-true 0 (tallyFor file p .overlapping) (also-by-first file p m)
 
   some : (l : Leak) → List·Memᴰ l (leaks file) → 0 < l .pairs
   some l m = let r = of-line m in subst (λ n. 0 < n) (sym (ap (λ l. l .pairs) (r .2) ∙ pairs-of (r .0))) (some-pair (r .1))

@@ -1,5 +1,6 @@
 pub mod Turns
 pub mod Tallied
+pub mod Editions
 pub mod Demand
 pub mod Ids
 pub mod Never

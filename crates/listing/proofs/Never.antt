@@ -2,7 +2,7 @@
 use Prim.Native.Nat.{ℕ, _+_, _*_, _<_, _≤_}
 use mathlib.Core.Path.{_≡_, sym, refl, ap, ap₂, subst, _∙_}
 use mathlib.Core.Logic.{⊎-elim}
-use mathlib.Core.Bool.{false}
+use mathlib.Core.Bool.{Bool, false, or-false}
 use mathlib.Core.List.{List, _++_, map, List·Memᴰ·append-cases}
 use native.Mathlib.Omega.{arith}
 use lib.Ieee.{Float, binary64, ofInt}
@@ -23,7 +23,7 @@ use Rattle.centimetres.proofs.Pair.{values, values-finite}
 use Rattle.centimetres.proofs.Never.{always-decided}
 use Rattle.centimetres.proofs.Passed.{in-good-files}
 use Rattle.listing.specs.declared.Tally.{Tally}
-use Rattle.listing.specs.Pairs.{placeIn, coordinatesAt, valuesAt, decisionAt, tallied}
+use Rattle.listing.specs.Pairs.{placeIn, coordinatesAt, valuesAt, decisionAt}
 use Rattle.listing.specs.Demand.{DecidedOfParts, NoneRefused, ValuesOfParts, PairByBoxes, FarApart}
 use Rattle.listing.proofs.Turns.{map-append}
 
@@ -80,11 +80,11 @@ by-boxes values g =
       ruled = λ e. boxes-first values .near (tell .near .0 e);
       far = tell .far;
       apart = apart;
-      adds = λ e t. rw (apart e, e) (tally-same (omega arith) (omega arith) (omega arith));
+      adds = λ e t. rw (apart e, e) (tally-same (omega arith) (omega arith) (omega arith) (or-false (t .refused)));
     }
   where
-    tally-same : {a b c d e f : ℕ} → a ≡ d → b ≡ e → c ≡ f → _≡_ {A = Tally} (record { overlapping = a; touching = b; tested = c }) (record { overlapping = d; touching = e; tested = f })
-    tally-same p q r = rw (p, q, r) refl
+    tally-same : {a b c d e f : ℕ} {g h : Bool} {s : Float} → a ≡ d → b ≡ e → c ≡ f → g ≡ h → _≡_ {A = Tally} (record { overlapping = a; touching = b; tested = c; refused = g; area = s }) (record { overlapping = d; touching = e; tested = f; refused = h; area = s })
+    tally-same p q r o = rw (p, q, r, o) refl
 
 pub far-apart : FarApart
 far-apart file good i j a b hi hj ha hb =

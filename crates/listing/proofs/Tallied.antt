@@ -1,26 +1,28 @@
--- What a tally counts is how many decisions overlap, how many touch, and how many pairs have boxes that share a point; and the decisions of two recordings are those of all their triangle pairs, in order. Assumes nothing.
+-- What a tally counts is how many decisions overlap, how many touch, and how many pairs have boxes that share a point; its area is the sum of their areas, and it says whether one is refused; and the decisions of two recordings are those of all their triangle pairs, in order. Assumes nothing.
 use Prim.Native.Nat.{ℕ, zero, suc, _+_, _*_, _<_}
 use mathlib.Core.Path.{_≡_, refl, sym, ap, ap₂, subst, _∙_}
-use mathlib.Core.Bool.{Bool, true, false, cond}
+use mathlib.Core.Bool.{Bool, true, false, _||_, cond, or-false}
 use mathlib.Core.List.{List, [], _∷_, _++_, map, append-nil, List·Memᴰ, List·Memᴰ·head as here, List·Memᴰ·tail as there}
 use native.Mathlib.Omega.{arith}
 use native.Mathlib.Nat.{add-zero, zero-mul, suc-mul, mul-le-mul-right}
 use native.Mathlib.Numerals.{add-one}
 use lib.Dec.{ltb}
 use borrow.Author.Tests.{ltb-true, ltb-false}
-use lib.Ieee.{Float}
+use lib.Ieee.{Float, binary64, add}
 use lib.ListN.{length, getD, length-append, length-map, List·getD-append}
 use lib.Seq.{getD-append-add}
-use Rattle.floats.specs.Lists.{count, once}
+use Rattle.floats.specs.Lists.{count, once, any}
+use Rattle.floats.specs.Finite.{nought}
 use Rattle.triangles.specs.declared.Decision.{Decision}
-use Rattle.triangles.specs.declared.Decision.the-variants.{Apart}
+use Rattle.triangles.specs.declared.Decision.the-variants.{Refused, Overlapping, Touching, Apart}
 use Rattle.boxes.specs.Near.{isNear}
-use Rattle.triangles.specs.Decision.{decisionOf, overlaps, touches}
+use Rattle.triangles.specs.Decision.{decisionOf, overlaps, touches, isRefused, withArea}
 use Rattle.layout.specs.declared.Entry.{Entry}
 use Rattle.listing.specs.declared.Tally.{Tally}
 use Rattle.listing.specs.Turns.{upTo, each, folded}
 use Rattle.listing.specs.Pairs.{valuesAt, decisionAt, nearAt, trianglePairs, decisions, tallied, noneYet, tallyOf}
-use Rattle.listing.proofs.Turns.{below, reached, mapped, unmapped, in-each, of-each, each-append, map-at}
+use Rattle.listing.specs.Demand.{areaIn}
+use Rattle.listing.proofs.Turns.{below, reached, mapped, unmapped, in-each, of-each, each-append, map-map, map-at}
 
 -- ---- the counts
 pub count-map : {A B : Type 0} (p : B → Bool) (f : A → B) (xs : List A) → count p (map f xs) ≡ count (λ x. p (f x)) xs
@@ -58,6 +60,48 @@ tally-touching file e f = counted-from (λ l. touches (decisionOf l)) (λ t. t .
 pub tally-tested : (file : List ℕ) (e f : Entry) → tallyOf file e f .tested ≡ count (λ q. nearAt file e f (q .0) (q .1)) (trianglePairs e f)
 unfolding nearAt
 tally-tested = counted-from isNear (λ t. t .tested) (λ t l. refl) refl
+
+-- ---- the areas, and what is refused
+map-decided : (file : List ℕ) (e f : Entry) → map decisionOf (map (λ q. valuesAt file e f (q .0) (q .1)) (trianglePairs e f)) ≡ decisions file e f
+unfolding decisions decisionAt
+map-decided file e f = map-map decisionOf (λ q. valuesAt file e f (q .0) (q .1)) (trianglePairs e f)
+
+areas : (t : Tally) (ls : List (List Float)) → folded tallied t ls .area ≡ folded (add binary64) (t .area) (each areaIn (map decisionOf ls))
+unfolding folded each
+areas t [] = refl
+areas t (l ∷ ls) = areas (tallied t l) ls ∙ go (decisionOf l) (each areaIn (map decisionOf ls))
+  where
+    go : (d : Decision) (rest : List Float) → folded (add binary64) (withArea (t .area) d) rest ≡ folded (add binary64) (t .area) (areaIn d ++ rest)
+    go (Refused k) rest = refl
+    go (Overlapping a) rest = refl
+    go Touching rest = refl
+    go Apart rest = refl
+
+pub tally-area : (file : List ℕ) (e f : Entry) → tallyOf file e f .area ≡ folded (add binary64) nought (each areaIn (decisions file e f))
+unfolding tallyOf
+tally-area file e f = areas noneYet (map (λ q. valuesAt file e f (q .0) (q .1)) (trianglePairs e f)) ∙ ap (λ ds. folded (add binary64) nought (each areaIn ds)) (map-decided file e f)
+
+refusals : (t : Tally) (ls : List (List Float)) → folded tallied t ls .refused ≡ (t .refused || any isRefused (map decisionOf ls))
+unfolding folded any
+refusals t [] = sym (or-false (t .refused))
+refusals t (l ∷ ls) = refusals (tallied t l) ls ∙ go (t .refused)
+  where
+    go : (b : Bool) → ((b || isRefused (decisionOf l)) || any isRefused (map decisionOf ls)) ≡ (b || (isRefused (decisionOf l) || any isRefused (map decisionOf ls)))
+    go true = refl
+    go false = refl
+
+pub tally-refused : (file : List ℕ) (e f : Entry) → tallyOf file e f .refused ≡ any isRefused (decisions file e f)
+unfolding tallyOf
+tally-refused file e f = refusals noneYet (map (λ q. valuesAt file e f (q .0) (q .1)) (trianglePairs e f)) ∙ ap (any isRefused) (map-decided file e f)
+
+-- where no decision overlaps, none has an area and none is refused
+pub none-added : (ds : List Decision) → count overlaps ds ≡ 0 → (each areaIn ds ≡ []) × (any isRefused ds ≡ false)
+unfolding count each any
+none-added [] h = (refl, refl)
+none-added (Refused k ∷ ds) h = absurd (omega (arith, h))
+none-added (Overlapping a ∷ ds) h = absurd (omega (arith, h))
+none-added (Touching ∷ ds) h = none-added ds h
+none-added (Apart ∷ ds) h = none-added ds h
 
 -- one that passes the test is counted, and where one is counted one passes
 pub counted-one : {A : Type 0} (p : A → Bool) (xs : List A) {x : A} → List·Memᴰ x xs → p x ≡ true → 0 < count p xs

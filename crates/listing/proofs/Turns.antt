@@ -114,6 +114,10 @@ unfolding each
 each-one f x = append-nil (f x)
 
 -- what gives the same of each that is there gives the same of all
+pub map-map : {A B C : Type 0} (g : B → C) (f : A → B) (xs : List A) → map g (map f xs) ≡ map (λ x. g (f x)) xs
+map-map g f [] = refl
+map-map g f (x ∷ xs) = ap (g (f x) ∷_) (map-map g f xs)
+
 pub map-same-in : {A B : Type 0} (f g : A → B) (xs : List A) → ((x : A) → List·Memᴰ x xs → f x ≡ g x) → map f xs ≡ map g xs
 map-same-in f g [] same = refl
 map-same-in f g (x ∷ xs) same = ap₂ _∷_ (same x (here refl)) (map-same-in f g xs (λ y m. same y (there m)))

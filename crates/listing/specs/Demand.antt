@@ -1,13 +1,18 @@
--- Demand 2 of the leak list, in the words of 02, No. 1, No. 3 and No. 7: which lines there are, in which order, what stands in them, what the two closing lines count, and how many triangle pairs are given to the triangle rules, in facts about the file's recordings and triangles. Statements only.
+-- Demand 2 of the leak list, in the words of 02, No. 1, No. 3, No. 7 and No. 8: which lines there are, in which order, what stands in them, what the two closing lines count, and how many triangle pairs are given to the triangle rules, in facts about the file's recordings and triangles. Statements only.
 use Prim.Native.Nat.{ℕ, _+_, _*_, _<_}
 use mathlib.Core.Path.{_≡_}
 use mathlib.Core.Logic.{_⊎_, _↔_}
 use mathlib.Core.Bool.{true, false}
-use mathlib.Core.List.{List, map, List·Memᴰ}
+use mathlib.Core.List.{List, [], _∷_, map, List·Memᴰ}
 use lib.ListN.{length, getD}
-use lib.Ieee.{Float}
+use lib.IntN.{pos}
+use lib.Ieee.{Float, binary64, add, mul, lt, ofInt}
 use Rattle.floats.specs.Lists.{count}
-use Rattle.triangles.specs.declared.Decision.the-variants.{Refused, Apart}
+use Rattle.floats.specs.Finite.{nought}
+use Rattle.triangles.specs.declared.Decision.{Decision}
+use Rattle.triangles.specs.declared.Decision.the-variants.{Refused, Overlapping, Touching, Apart}
+use Rattle.triangles.specs.Pair.{eOfU}
+use Rattle.triangles.specs.Positions.{half}
 use Rattle.floats.specs.declared.Position.{Position}
 use Rattle.boxes.specs.Shared.{boxAround, In}
 use Rattle.boxes.specs.Near.{cornersOfU, cornersOfV, isNear, Far}
@@ -16,11 +21,11 @@ use Rattle.centimetres.specs.Centimetres.{twelveValues}
 use Rattle.layout.specs.Recordings.{partOf}
 use Rattle.layout.specs.Parts.{countOf, entryAt, triangleFrom}
 use Rattle.layout.specs.Layout.{Layout}
-use Rattle.listing.specs.Turns.{folded}
+use Rattle.listing.specs.Turns.{upTo, each, folded}
 use Rattle.listing.specs.declared.Tally.{Tally}
-use Rattle.listing.specs.Pairs.{valuesAt, decisionAt, decisions, tallied}
+use Rattle.listing.specs.Pairs.{placeIn, valuesAt, decisionAt, decisions, tallied, absolute, eAt, hundred, leakByFirst}
 use Rattle.sets.specs.Sets.{TrainingSet}
-use Rattle.listing.specs.Leaks.{Leak, tests, trainings, recordingPairs, tallyFor, leakPairs, leakOf, leaks, touchingPairs, touching, testedPairs, tested, formerly, formerlyHeldBack}
+use Rattle.listing.specs.Leaks.{Leak, tests, trainings, recordingPairs, tallyFor, ownFor, leakPairs, leakOf, leaks, touchingPairs, touching, testedPairs, tested, formerly, formerlyHeldBack}
 
 -- the triangles a of recording i, as U, and b of recording j, as V, overlap; or touch
 abbrev pub Overlap : List ℕ → ℕ → ℕ → ℕ → ℕ → Type 0
@@ -28,6 +33,22 @@ Overlap file i j a b = overlaps (decisionAt file (entryAt file i) (entryAt file 
 
 abbrev pub Touch : List ℕ → ℕ → ℕ → ℕ → ℕ → Type 0
 Touch file i j a b = touches (decisionAt file (entryAt file i) (entryAt file j) a b) ≡ true
+
+-- or they are refused
+abbrev pub RefusedPair : List ℕ → ℕ → ℕ → ℕ → ℕ → Type 0
+RefusedPair file i j a b = (k : ℕ) × (decisionAt file (entryAt file i) (entryAt file j) a b ≡ Refused k)
+
+-- the area that is decided of a pair, if it has one: a refused pair has none
+abbrev pub areaIn : Decision → List Float
+areaIn (Refused k) = []
+areaIn (Overlapping a) = a ∷ []
+areaIn Touching = []
+areaIn Apart = []
+
+-- the areas of the overlapping triangle pairs of recordings i and j, added in the order in which the pairs are decided, from 0.0
+unfoldable pub sumOfAreas : List ℕ → ℕ → ℕ → Float
+unfolding folded each decisions entryAt
+sumOfAreas file i j = folded (add binary64) nought (each areaIn (decisions file (entryAt file i) (entryAt file j)))
 
 -- i is a test recording of the table and j a training recording, which is stored with set 0 or, where it was held back once, with set 2
 pub record Compared (file : List ℕ) (i j : ℕ) : Type 0 where
@@ -40,10 +61,23 @@ pub record Compared (file : List ℕ) (i j : ℕ) : Type 0 where
 abbrev pub SomePair : List ℕ → ℕ → ℕ → (ℕ → ℕ → Type 0) → Type 0
 SomePair file i j Holds = (a : ℕ) × (b : ℕ) × (a < entryAt file i .count) × (b < entryAt file j .count) × Holds a b
 
--- they leak: at least one of their triangle pairs overlaps
+-- the factor of the comparison is the f64 of the whole number 100
+abbrev pub AHundred : Type 0
+AHundred = hundred ≡ ofInt binary64 (pos 100)
+
+-- they leak by edition 1: at least one of their triangle pairs overlaps
+abbrev pub FirstLeak : List ℕ → ℕ → ℕ → Type 0
+FirstLeak file i j = SomePair file i j (Overlap file i j)
+
+-- they leak by edition 2: 100 times the sum of the areas is above the own area of the test recording, or a triangle pair is refused
+abbrev pub SecondLeak : List ℕ → ℕ → ℕ → Type 0
+SecondLeak file i j = (lt (ownFor file i) (mul binary64 hundred (sumOfAreas file i j)) ≡ true) ⊎ SomePair file i j (RefusedPair file i j)
+
+-- they leak: by edition 2 where the test recording's last byte is 1, else by edition 1
 pub record Leaking (file : List ℕ) (i j : ℕ) : Type 0 where
   pub compared : Compared file i j
-  pub pair : SomePair file i j (Overlap file i j)
+  pub first : (entryAt file i .last ≡ 1 → ⊥) → FirstLeak file i j
+  pub second : entryAt file i .last ≡ 1 → SecondLeak file i j
 
 -- they only touch: one of their triangle pairs touches and none overlaps
 pub record OnlyTouching (file : List ℕ) (i j : ℕ) : Type 0 where
@@ -83,7 +117,7 @@ abbrev pub noLeak : Leak
 noLeak = record { test = 0; train = 0; pairs = 0 }
 
 pub record ListDemand2 (file : List ℕ) : Type 0 where
-  -- a line stands there for two recordings if and only if they leak, and for no other two
+  -- a line stands there for two recordings if and only if they leak by the test recording's edition, and for no other two
   pub exactlyIf : (i j : ℕ) → List·Memᴰ (i, j) (leakPairs file) ↔ Leaking file i j
   -- the lines are in table order; so no two are for the same two recordings
   pub inOrder : (k l : ℕ) → k < l → l < length (leakPairs file) → InTableOrder (lineFor file k) (lineFor file l)
@@ -94,6 +128,15 @@ pub record ListDemand2 (file : List ℕ) : Type 0 where
   pub named : (i j : ℕ) → (leakOf file (i, j) .test ≡ entryAt file i .id) × (leakOf file (i, j) .train ≡ entryAt file j .id) × (leakOf file (i, j) .pairs ≡ tallyFor file (i, j) .overlapping)
   pub counted : (i j : ℕ) → tallyFor file (i, j) .overlapping ≡ count overlaps (decisions file (entryAt file i) (entryAt file j))
   pub decided : (i j : ℕ) → AllDecided file i j
+  -- what is kept beside N: the sum of the areas, and whether a pair is refused
+  pub summed : (i j : ℕ) → tallyFor file (i, j) .area ≡ sumOfAreas file i j
+  pub refusedOne : (i j : ℕ) → (tallyFor file (i, j) .refused ≡ true) ↔ SomePair file i j (RefusedPair file i j)
+  -- the own area of a recording: half the sum, from 0.0 in stored order, of the absolute e of its triangles; and that is the e of the triangle rules, with whatever V
+  pub own : (i : ℕ) → ownFor file i ≡ mul binary64 half (folded (add binary64) nought (map (λ a. absolute (eAt file (placeIn (entryAt file i) a))) (upTo (entryAt file i .count))))
+  pub sameE : (i j a b : ℕ) → eAt file (placeIn (entryAt file i) a) ≡ eOfU (valuesAt file (entryAt file i) (entryAt file j) a b) .value
+  -- by either edition a triangle pair of theirs overlaps: so a leak is one by edition 1 as well
+  pub someOverlap : (i j : ℕ) → Leaking file i j → FirstLeak file i j
+  pub alsoByFirst : (i j : ℕ) → List·Memᴰ (i, j) (leakPairs file) → leakByFirst (tallyFor file (i, j)) ≡ true
   -- the number behind `touching` is how many pairs there are of a test and a training recording that only touch: the pairs counted are those and no other, and each is counted once
   pub touchingExactlyIf : (i j : ℕ) → List·Memᴰ (i, j) (touchingPairs file) ↔ OnlyTouching file i j
   pub touchingInOrder : (k l : ℕ) → k < l → l < length (touchingPairs file) → InTableOrder (touchingFor file k) (touchingFor file l)

@@ -1,6 +1,7 @@
--- 01, "The leak list", with 02, No. 1, No. 3 and No. 7: which pairs of recordings have a line, in which order, and what the line names; which only touch; which triangle pairs are given to the triangle rules; and which recordings were formerly held back. Definitions only.
+-- 01, "The leak list", with 02, No. 1, No. 3, No. 7 and No. 8: which pairs of recordings have a line, in which order, and what the line names; which only touch; which triangle pairs are given to the triangle rules; and which recordings were formerly held back. Definitions only.
 use Prim.Native.Nat.{ℕ}
 use mathlib.Core.Bool.{Bool}
+use lib.Ieee.{Float}
 use mathlib.Core.List.{List, map}
 use lib.ListN.{length}
 use Rattle.floats.specs.Lists.{filter}
@@ -8,7 +9,7 @@ use Rattle.layout.specs.Parts.{countOf, entryAt}
 use Rattle.listing.specs.Turns.{upTo, each}
 use Rattle.listing.specs.declared.Tally.{Tally}
 use Rattle.sets.specs.Sets.{isTest, isTraining, isRetired}
-use Rattle.listing.specs.Pairs.{nearAt, trianglePairs, tallyOf, leak, onlyTouch}
+use Rattle.listing.specs.Pairs.{nearAt, trianglePairs, tallyOf, ownArea, leak, onlyTouch}
 
 -- a leak line: the ids of the test and the training recording, and how many of their triangle pairs overlap
 pub record Leak : Type 0 where
@@ -31,17 +32,22 @@ module _ (file : List ℕ) where
   unfolding tests trainings each
   recordingPairs = each (λ i. map (λ j. (i, j)) trainings) tests
 
-  -- what is counted of the two recordings
+  -- what is kept of the two recordings
   unfoldable pub tallyFor : ℕ × ℕ → Tally
   unfolding tallyOf entryAt
   tallyFor p = tallyOf file (entryAt file (p .0)) (entryAt file (p .1))
 
-  -- two recordings have a line if they leak
+  -- the own area of recording i
+  unfoldable pub ownFor : ℕ → Float
+  unfolding ownArea entryAt
+  ownFor i = ownArea file (entryAt file i)
+
+  -- two recordings have a line if they leak by the edition of the test recording
   abbrev pub isLeak : ℕ × ℕ → Bool
-  isLeak p = leak (tallyFor p)
+  isLeak p = leak (entryAt file (p .0) .last) (ownFor (p .0)) (tallyFor p)
 
   unfoldable pub leakPairs : List (ℕ × ℕ)
-  unfolding recordingPairs tallyFor filter
+  unfolding recordingPairs tallyFor ownFor entryAt filter
   leakPairs = filter isLeak recordingPairs
 
   -- with the ids of both, and N, how many of their triangle pairs overlap

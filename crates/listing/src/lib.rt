@@ -1,10 +1,13 @@
-// The leak list: its rules, the laws that hold of them, what is counted of two recordings and what is answered.
+// The leak list: its rules, the laws that hold of them, what is kept of two recordings and what is answered.
 
-// What is counted of the triangle pairs of a test and a training recording: how many overlap, how many touch, and how many were given to the triangle rules.
+// What is kept of the triangle pairs of a test and a training recording: how many overlap, how many touch, how many were given to the triangle rules, whether
+// one was refused, and the sum of the areas of those that overlap, added in the order tested.
 pub struct Tally {
     pub overlapping: u32,
     pub touching: u32,
     pub tested: u32,
+    pub refused: bool,
+    pub area: f64,
 }
 
 // What is counted of a file's test recordings, each with all training recordings: how many leaks there are, how many pairs of recordings only touch, and how many triangle pairs were given to the triangle rules.

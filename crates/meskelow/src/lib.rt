@@ -48,18 +48,19 @@ pub extern "C" fn meskelow_recording(file: &[u8], k: usize) -> layout::Recording
     recordings::recording(file, k)
 }
 
-// Lists of ids, counts and sets and the triangles' numbers: the length of their file, with the file at the front of the room, or a refusal's number with zeros, with the room as it was.
+// Lists of ids, counts, sets and last bytes and the triangles' numbers: the length of their file, with the file at the front of the room, or a refusal's number with zeros, with the room as it was.
 #[no_mangle]
 pub extern "C" fn meskelow_write(
     ids: &[u32],
     counts: &[u32],
     sets: &[u8],
+    lasts: &[u8],
     numbers: &[i32],
     room: &mut [u8],
 ) -> text::Written
-    ensures { λ r. ⌜ WritePromise (givenOf (now (ids .entry)) (now (counts .entry)) (now (sets .entry)) (now (numbers .entry))) (now (room .entry)) r (now (room .exit)) ⌝ }
+    ensures { λ r. ⌜ WritePromise (givenOf (now (ids .entry)) (now (counts .entry)) (now (sets .entry)) (now (lasts .entry)) (now (numbers .entry))) (now (room .entry)) r (now (room .exit)) ⌝ }
 {
-    filer::write(ids, counts, sets, numbers, room)
+    filer::write(ids, counts, sets, lasts, numbers, room)
 }
 
 // The well-known text of the recording of a file's bytes that has the id: its length, with the text at the front of the room, or a refusal's number and place with zeros, with the room as it was.

@@ -1,6 +1,6 @@
 -- An old file and the same file with every 2 stored as 0: the bytes of sets change and no others, so both have the same recordings and triangles, and test and training recordings stay what they are. Assumes nothing.
 use Prim.Native.Nat.{ℕ, _+_, _-_, _*_, _<_, _≤_}
-use mathlib.Core.Logic.{_↔_}
+use mathlib.Core.Logic.{_↔_, inl, inr}
 use mathlib.Core.Path.{_≡_, refl, sym, ap, ap₂, subst, _∙_}
 use mathlib.Core.Bool.{Bool, true, false, cond}
 use mathlib.Core.List.{List, [], _∷_, _++_, map, List·Memᴰ, List·Memᴰ·head as here, List·Memᴰ·tail as there}
@@ -11,23 +11,27 @@ use lib.ListN.{length, length-map, List·getD-eq-default}
 use lib.Seq.{ext-getD}
 use Rattle.floats.specs.Lists.{filter}
 use Rattle.sets.specs.Sets.{isTest, isTraining, isRetired}
+use Rattle.sets.specs.Editions.{KnownLast}
 use Rattle.layout.specs.declared.Entry.{Entry}
-use Rattle.layout.specs.Bytes.{Bytes, byteAt, u16At, u32At, i32At, signed}
-use Rattle.layout.specs.Parts.{numbersOf, tablePlace, countOf, storedLength, entryFrom, entryPlace, entryAt, partEnd, triangleFrom, triangleAt}
+use Rattle.layout.specs.Bytes.{Bytes, byteAt, i32At}
+use Rattle.layout.specs.Parts.{numbersOf, tablePlace, countOf, entryFrom, entryPlace, entryAt, partEnd, triangleFrom, triangleAt}
 use Rattle.layout.specs.Rules.{twiceArea}
 use Rattle.layout.specs.Layout.{Layout}
-use Rattle.layout.specs.Recordings.{partOf, f64At}
+use Rattle.layout.specs.Recordings.{partOf}
 use Rattle.layout.proofs.Inside.{parts-inside}
 use Rattle.layout.proofs.Tests.{some-to, some-from}
+use Rattle.filing.specs.Given.{entryBy}
 use Rattle.filing.specs.Promise.{NoneRetired}
-use Rattle.listing.specs.Turns.{upTo, each, folded}
-use Rattle.listing.specs.Pairs.{placeIn, coordinatesAt, valuesAt, trianglePairs, tallied, noneYet, tallyOf, leak, onlyTouch}
-use Rattle.listing.specs.Leaks.{Leak, tests, trainings, recordingPairs, tallyFor, isLeak, leakPairs, leakOf, leaks, isTouching, touchingPairs, touching, tested, formerly, formerlyHeldBack}
+use Rattle.listing.specs.Turns.{upTo, each}
+use Rattle.listing.specs.Leaks.{Leak, tests, trainings, recordingPairs, tallyFor, isLeak, leakPairs, leakOf, leaks, touching, tested, formerly, formerlyHeldBack}
+use Rattle.alike.specs.Alike.{SameBut, AlikeBut, KeptAlike}
+use Rattle.alike.proofs.Alike.{all-kept-alike}
+use Rattle.alike.proofs.Bytes.{all-alike-but}
 use Rattle.listing.specs.Words.{allButLast, formerlyLine, textOf, listText}
 use Rattle.moving.specs.Moved.{movedSet, setPlace, hasSet, movedByte, moved, movedEntry, AllMovedOver, MovedSets, AllMovedBytes}
 use Rattle.listing.proofs.Turns.{below, reached, passed, map-at, map-same-in, filter-same-in}
-use Rattle.listing.proofs.Tallied.{length-upTo, upTo-at, pair-of}
-use Rattle.listing.proofs.Demand.{in-pairs, tested-walked}
+use Rattle.listing.proofs.Tallied.{length-upTo, upTo-at}
+use Rattle.listing.proofs.Demand.{in-pairs}
 
 -- ---- sets
 -- what holds of 0 as of 2 holds of the new set as of the old
@@ -54,6 +58,18 @@ known-stays s h = go (isRetired s)
     go : (b : Bool) → cond b 0 s ≤ 2
     go true = omega arith
     go false = h
+
+-- a last byte that may stand beside a set may stand beside the new one
+last-stays : (s last : ℕ) → KnownLast s last → KnownLast (movedSet s) last
+last-stays s last (inl z) = inl z
+last-stays s last (inr w) = inr (moved-sets .others s (λ e. let f = w .0 in omega (arith, e, f)) ∙ w .0, w .1)
+
+-- ---- an entry by its fields
+five : {a b c d e a' b' c' d' e' : ℕ} → a ≡ a' → b ≡ b' → c ≡ c' → d ≡ d' → e ≡ e' → entryBy a b c d e ≡ entryBy a' b' c' d' e'
+five p q r s t = rw (p, q, r, s, t) refl
+
+same-entry : (e f : Entry) → e .id ≡ f .id → e .first ≡ f .first → e .count ≡ f .count → e .set ≡ f .set → e .last ≡ f .last → e ≡ f
+same-entry e f p q r s t = five p q r s t
 
 -- ---- a filtered list
 filter-none : {A : Type 0} (f : A → Bool) (xs : List A) → ((x : A) → List·Memᴰ x xs → f x ≡ false) → filter f xs ≡ []
@@ -126,67 +142,37 @@ pub all-moved-bytes : AllMovedBytes
 all-moved-bytes file = record { sameLength = same-length file; setByte = set-moves file; otherByte = stays file; bytes = are-bytes file; asBefore = as-before file }
 
 module _ (file : List ℕ) (l : Layout file) where
-  -- so do numbers of two and of four bytes
-  two-stay : (at : ℕ) → at + 2 ≤ length file → Elsewhere file at → Elsewhere file (at + 1) → u16At (moved file) at ≡ u16At file at
-  unfolding u16At
-  two-stay at h a b = rw (stays file at (omega (arith, h)) a, stays file (at + 1) (omega (arith, h)) b) refl
+  -- it is the same file but for byte 10 of its entries
+  same-but : SameBut 10 file (moved file)
+  same-but = record { sameLength = same-length file; sameByte = stays file }
 
-  four-stay : (at : ℕ) → at + 4 ≤ length file → Elsewhere file at → Elsewhere file (at + 1) → Elsewhere file (at + 2) → Elsewhere file (at + 3) → u32At (moved file) at ≡ u32At file at
-  unfolding u32At
-  four-stay at h a b c d = rw (stays file at (omega (arith, h)) a, stays file (at + 1) (omega (arith, h)) b, stays file (at + 2) (omega (arith, h)) c, stays file (at + 3) (omega (arith, h)) d) refl
+  common : AlikeBut 10 file (moved file)
+  common = all-alike-but 10 (omega arith) (omega arith) file (moved file) l same-but
 
-  -- ---- the trailer: behind the table
-  in-trailer : (x : ℕ) → 4 ≤ x → x ≤ 12 → u32At (moved file) (length (moved file) - x) ≡ u32At file (length file - x)
-  in-trailer x low high =
-      let f = l .filled in
-      ap (λ n. u32At (moved file) (n - x)) (same-length file)
-      ∙ four-stay (length file - x) (omega (arith, f, low, high)) (λ k h e. omega (arith, f, high, h, e)) (λ k h e. omega (arith, f, high, h, e)) (λ k h e. omega (arith, f, high, h, e)) (λ k h e. omega (arith, f, high, h, e))
+  kept : KeptAlike file (moved file)
+  kept = all-kept-alike file (moved file) l (common .alike)
 
   pub table-is : tablePlace (moved file) ≡ tablePlace file
-  unfolding tablePlace
-  table-is = in-trailer 12 (omega arith) (omega arith)
+  table-is = common .table
 
   count-is : countOf (moved file) ≡ countOf file
-  unfolding countOf
-  count-is = in-trailer 8 (omega arith) (omega arith)
+  count-is = common .alike .asMany
 
-  stored-is : storedLength (moved file) ≡ storedLength file
-  unfolding storedLength
-  stored-is = in-trailer 4 (omega arith) (omega arith)
+  -- ---- an entry: of its bytes that of the set changes
+  set-is : (k : ℕ) → k < countOf file → entryAt (moved file) k .set ≡ movedSet (entryAt file k .set)
+  unfolding entryAt entryFrom entryPlace
+  set-is k h = let f = l .filled in ap (λ n. byteAt (moved file) (n + 12 * k + 10)) table-is ∙ set-moves file k h (omega (arith, h, f))
 
-  -- ---- an entry: eleven of its bytes stay
-  beside : (k r : ℕ) → r < 12 → (r ≡ 10 → ⊥) → Elsewhere file (tablePlace file + 12 * k + r)
-  beside k r h n j g e = n (tens (tablePlace file) k j r h e)
-    where
-      tens : (t k j r : ℕ) → r < 12 → t + 12 * k + r ≡ t + 12 * j + 10 → r ≡ 10
-      tens t k j r h e = omega (arith, h, e)
+  last-is : (k : ℕ) → k < countOf file → entryAt (moved file) k .last ≡ entryAt file k .last
+  unfolding entryAt entryFrom
+  last-is k h = common .otherByte k 11 h (omega arith) (λ z. omega (arith, z))
 
   entry-is : (k : ℕ) → k < countOf file → entryAt (moved file) k ≡ movedEntry (entryAt file k)
-  unfolding entryAt entryFrom entryPlace
-  entry-is k h =
-      let t = tablePlace file in
-      let f = l .filled in
-      let p = t + 12 * k in
-      ap (λ n. entryFrom (moved file) (n + 12 * k)) table-is
-      ∙ five
-      (four-stay p (omega (arith, h, f)) (λ j g e. beside k 0 (omega arith) (λ z. omega (arith, z)) j g (omega (arith, e))) (beside k 1 (omega arith) (λ z. omega (arith, z))) (beside k 2 (omega arith) (λ z. omega (arith, z))) (beside k 3 (omega arith) (λ z. omega (arith, z))))
-      (four-stay (p + 4) (omega (arith, h, f)) (beside k 4 (omega arith) (λ z. omega (arith, z))) (λ j g e. beside k 5 (omega arith) (λ z. omega (arith, z)) j g (omega (arith, e))) (λ j g e. beside k 6 (omega arith) (λ z. omega (arith, z)) j g (omega (arith, e))) (λ j g e. beside k 7 (omega arith) (λ z. omega (arith, z)) j g (omega (arith, e))))
-      (two-stay (p + 8) (omega (arith, h, f)) (beside k 8 (omega arith) (λ z. omega (arith, z))) (λ j g e. beside k 9 (omega arith) (λ z. omega (arith, z)) j g (omega (arith, e))))
-      (set-moves file k h (omega (arith, h, f)))
-      (stays file (p + 11) (omega (arith, h, f)) (beside k 11 (omega arith) (λ z. omega (arith, z))))
-    where
-      entryBy : ℕ → ℕ → ℕ → ℕ → ℕ → Entry
-      entryBy id first count set last = record { id = id; first = first; count = count; set = set; last = last }
-
-      five : {a b c d e a' b' c' d' e' : ℕ} → a ≡ a' → b ≡ b' → c ≡ c' → d ≡ d' → e ≡ e' → entryBy a b c d e ≡ entryBy a' b' c' d' e'
-      five p q r s t = rw (p, q, r, s, t) refl
+  entry-is k h = same-entry (entryAt (moved file) k) (movedEntry (entryAt file k)) (common .alike .id k h) (common .alike .first k h) (common .alike .count k h) (set-is k h) (last-is k h)
 
   -- ---- numbers before the table
   pub number-stays : (at : ℕ) → at + 4 ≤ tablePlace file → i32At (moved file) at ≡ i32At file at
-  unfolding i32At
-  number-stays at h =
-      let f = l .filled in
-      ap signed (four-stay at (omega (arith, h, f)) (λ k g e. omega (arith, h, e)) (λ k g e. omega (arith, h, e)) (λ k g e. omega (arith, h, e)) (λ k g e. omega (arith, h, e)))
+  number-stays = common .alike .number
 
   triangle-is : (k : ℕ) → 24 * k + 24 ≤ tablePlace file → triangleAt (moved file) k ≡ triangleAt file k
   unfolding triangleAt triangleFrom
@@ -205,12 +191,12 @@ module _ (file : List ℕ) (l : Layout file) where
       record {
         atLeast12 = omega (arith, n, l .atLeast12);
         atMost65536 = omega (arith, n, l .atMost65536);
-        lengthStored = stored-is ∙ (l .lengthStored ∙ sym n);
+        lengthStored = common .stored ∙ (l .lengthStored ∙ sym n);
         atMost64 = omega (arith, c, l .atMost64);
         filled = omega (arith, c, t, n, l .filled);
         someTriangles = λ i h. rw (of-entry (λ e. e .count) i h) (l .someTriangles i (omega (arith, h, c)));
         knownSet = λ i h. rw (of-entry (λ e. e .set) i h) (known-stays (entryAt file i .set) (l .knownSet i (omega (arith, h, c))));
-        lastZero = λ i h. of-entry (λ e. e .last) i h ∙ l .lastZero i (omega (arith, h, c));
+        knownLast = λ i h. rw (of-entry (λ e. e .set) i h, of-entry (λ e. e .last) i h) (last-stays (entryAt file i .set) (entryAt file i .last) (l .knownLast i (omega (arith, h, c))));
         fromStart = λ h. of-entry (λ e. e .first) 0 h ∙ l .fromStart (omega (arith, h, c));
         endToEnd = λ i h. of-entry (λ e. e .first) (i + 1) h ∙ (l .endToEnd i (omega (arith, h, c)) ∙ sym (of-entry partEnd i (omega (arith, h))));
         toTable = λ i q. of-entry partEnd i (omega (arith, q)) ∙ (l .toTable i (q ∙ c) ∙ sym t);
@@ -247,42 +233,16 @@ module _ (file : List ℕ) (l : Layout file) where
   unfolding recordingPairs tests trainings
   pairs-stay = ap₂ (λ ts rs. each (λ i. map (λ j. (i, j)) rs) ts) (those-stay isTest refl) (those-stay isTraining refl)
 
-  -- ---- and so does what is counted of two of them
-  coordinates-stay : (at : ℕ) → at + 24 ≤ tablePlace file → coordinatesAt (moved file) at ≡ coordinatesAt file at
-  unfolding coordinatesAt f64At
-  coordinates-stay at h =
-      rw (number-stays at (omega (arith, h)), number-stays (at + 4) (omega (arith, h)), number-stays (at + 8) (omega (arith, h)), number-stays (at + 12) (omega (arith, h)), number-stays (at + 16) (omega (arith, h)), number-stays (at + 20) (omega (arith, h))) refl
-
-  values-stay : (i j a b : ℕ) → i < countOf file → j < countOf file → a < entryAt file i .count → b < entryAt file j .count → valuesAt (moved file) (entryAt (moved file) i) (entryAt (moved file) j) a b ≡ valuesAt file (entryAt file i) (entryAt file j) a b
-  unfolding valuesAt
-  values-stay i j a b hi hj ha hb =
-      let p = parts-inside file i l hi .beforeTable in
-      let q = parts-inside file j l hj .beforeTable in
-      ap₂ (λ e f. coordinatesAt (moved file) (placeIn e a) ++ coordinatesAt (moved file) (placeIn f b)) (entry-is i hi) (entry-is j hj)
-      ∙ ap₂ _++_ (coordinates-stay (placeIn (entryAt file i) a) (omega (arith, p, ha))) (coordinates-stay (placeIn (entryAt file j) b) (omega (arith, q, hb)))
-
-  same-pairs : (e f : Entry) → trianglePairs (movedEntry e) (movedEntry f) ≡ trianglePairs e f
-  unfolding trianglePairs
-  same-pairs e f = refl
-
-  tally-stays : (i j : ℕ) → i < countOf file → j < countOf file → tallyFor (moved file) (i, j) ≡ tallyFor file (i, j)
-  unfolding tallyFor tallyOf
-  tally-stays i j hi hj =
-      let e = entryAt file i in
-      let f = entryAt file j in
-      ap (λ ps. folded tallied noneYet (map (λ p. valuesAt (moved file) (entryAt (moved file) i) (entryAt (moved file) j) (p .0) (p .1)) ps)) (ap₂ trianglePairs (entry-is i hi) (entry-is j hj) ∙ same-pairs e f)
-      ∙ ap (folded tallied noneYet) (map-same-in (λ p. valuesAt (moved file) (entryAt (moved file) i) (entryAt (moved file) j) (p .0) (p .1)) (λ p. valuesAt file e f (p .0) (p .1)) (trianglePairs e f) (λ p m. let r = pair-of e f m in values-stay i j (p .0) (p .1) hi hj (r .0) (r .1)))
-
+  -- ---- and so does what is kept of two of them
   two-stay-so : (p : ℕ × ℕ) → List·Memᴰ p (recordingPairs file) → tallyFor (moved file) p ≡ tallyFor file p
-  two-stay-so p m = let c = in-pairs file m in tally-stays (p .0) (p .1) (c .recording) (c .other)
+  two-stay-so p m = let c = in-pairs file m in kept .tally (p .0) (p .1) (c .recording) (c .other)
+
+  leak-stays : (p : ℕ × ℕ) → List·Memᴰ p (recordingPairs file) → isLeak (moved file) p ≡ isLeak file p
+  leak-stays p m = let c = in-pairs file m in rw (last-is (p .0) (c .recording), kept .own (p .0) (c .recording), two-stay-so p m) refl
 
   leak-pairs-stay : leakPairs (moved file) ≡ leakPairs file
   unfolding leakPairs
-  leak-pairs-stay = ap (filter (isLeak (moved file))) pairs-stay ∙ filter-same-in (isLeak (moved file)) (isLeak file) (recordingPairs file) (λ p m. ap leak (two-stay-so p m))
-
-  touching-pairs-stay : touchingPairs (moved file) ≡ touchingPairs file
-  unfolding touchingPairs
-  touching-pairs-stay = ap (filter (isTouching (moved file))) pairs-stay ∙ filter-same-in (isTouching (moved file)) (isTouching file) (recordingPairs file) (λ p m. ap onlyTouch (two-stay-so p m))
+  leak-pairs-stay = ap (filter (isLeak (moved file))) pairs-stay ∙ filter-same-in (isLeak (moved file)) (isLeak file) (recordingPairs file) leak-stays
 
   line-stays : (p : ℕ × ℕ) → List·Memᴰ p (recordingPairs file) → leakOf (moved file) p ≡ leakOf file p
   unfolding leakOf
@@ -299,15 +259,10 @@ module _ (file : List ℕ) (l : Layout file) where
   leaks-stay = ap (map (leakOf (moved file))) leak-pairs-stay ∙ map-same-in (leakOf (moved file)) (leakOf file) (leakPairs file) (λ p m. line-stays p (passed (isLeak file) (recordingPairs file) m .0))
 
   touching-stays : touching (moved file) ≡ touching file
-  unfolding touching
-  touching-stays = ap length touching-pairs-stay
+  touching-stays = kept .touchingSame pairs-stay
 
   tested-stays : tested (moved file) ≡ tested file
-  tested-stays =
-      tested-walked (moved file)
-      ∙ (ap (λ ps. folded _+_ 0 (map (λ p. tallyFor (moved file) p .tested) ps)) pairs-stay
-      ∙ (ap (folded _+_ 0) (map-same-in (λ p. tallyFor (moved file) p .tested) (λ p. tallyFor file p .tested) (recordingPairs file) (λ p m. ap (λ t. t .tested) (two-stay-so p m)))
-      ∙ sym (tested-walked file)))
+  tested-stays = kept .testedSame pairs-stay
 
   none-any-more : formerlyHeldBack (moved file) ≡ 0
   unfolding formerlyHeldBack formerly

@@ -5,7 +5,7 @@ use mathlib.Core.List.{List, map}
 use native.Mathlib.Omega.{arith}
 use borrow.Author.Tests.{eqb-false}
 use lib.IntN.{ℤ, pos}
-use lib.ListN.{length-map}
+use lib.ListN.{length, getD, length-map}
 use lib.Seq.{ext-getD}
 use Rattle.sets.specs.Sets.{isRetired}
 use Rattle.layout.specs.declared.Entry.{Entry}
@@ -17,7 +17,7 @@ use Rattle.listing.proofs.Turns.{map-at}
 use Rattle.filing.specs.Given.{givenOf}
 use Rattle.filing.specs.Taken.{listed, takenFrom}
 use Rattle.filing.specs.Promise.{WritePromise, NoneRetired}
-use Rattle.filing.proofs.Taken.{listed-as, numbers-are, id-is, count-is, set-is, taken-lengths}
+use Rattle.filing.proofs.Taken.{listed-as, numbers-are, id-is, count-is, set-is, last-is, taken-lengths}
 use Rattle.filing.proofs.Returned.{very-bytes-again}
 use Rattle.moving.specs.Moved.{movedSet, moved, movedEntry}
 use Rattle.moving.specs.Written.{movedLists, AllWrittenOver}
@@ -40,15 +40,20 @@ module _ (file : List ℕ) (l : Layout file) where
   in-new i h = omega (arith, h, n-is)
 
   -- ---- list by list
+  -- what is not moved of an entry
+  stays : (field : Entry → ℕ) (a b : List ℕ) → ((e : Entry) → field (movedEntry e) ≡ field e) → length a ≡ countOf new → length b ≡ countOf file → ((i : ℕ) → i < countOf new → getD a i 0 ≡ field (entryAt new i)) → ((i : ℕ) → i < countOf file → getD b i 0 ≡ field (entryAt file i)) → a ≡ b
+  stays field a b same m n p q = ext-getD 0 a b (m ∙ (n-is ∙ sym n)) (λ i h.
+      let k : i < countOf file = omega (arith, h, m, n-is) in
+      p i (in-new i k) ∙ (entry-of field i k ∙ (same (entryAt file i) ∙ sym (q i k))))
+
   ids-stay : takenFrom new .ids ≡ takenFrom file .ids
-  ids-stay = ext-getD 0 (takenFrom new .ids) (takenFrom file .ids) (taken-lengths new .0 ∙ (n-is ∙ sym (taken-lengths file .0))) (λ i h.
-      let k : i < countOf file = omega (arith, h, taken-lengths new .0, n-is) in
-      id-is new good i (in-new i k) ∙ (entry-of (λ e. e .id) i k ∙ sym (id-is file l i k)))
+  ids-stay = stays (λ e. e .id) (takenFrom new .ids) (takenFrom file .ids) (λ e. refl) (taken-lengths new .0) (taken-lengths file .0) (id-is new good) (id-is file l)
 
   counts-stay : takenFrom new .counts ≡ takenFrom file .counts
-  counts-stay = ext-getD 0 (takenFrom new .counts) (takenFrom file .counts) (taken-lengths new .1 ∙ (n-is ∙ sym (taken-lengths file .1))) (λ i h.
-      let k : i < countOf file = omega (arith, h, taken-lengths new .1, n-is) in
-      count-is new good i (in-new i k) ∙ (entry-of (λ e. e .count) i k ∙ sym (count-is file l i k)))
+  counts-stay = stays (λ e. e .count) (takenFrom new .counts) (takenFrom file .counts) (λ e. refl) (taken-lengths new .1) (taken-lengths file .1) (count-is new good) (count-is file l)
+
+  lasts-stay : takenFrom new .lasts ≡ takenFrom file .lasts
+  lasts-stay = stays (λ e. e .last) (takenFrom new .lasts) (takenFrom file .lasts) (λ e. refl) (taken-lengths new .3) (taken-lengths file .3) (last-is new good) (last-is file l)
 
   sets-move : takenFrom new .sets ≡ map movedSet (takenFrom file .sets)
   sets-move =
@@ -65,10 +70,10 @@ module _ (file : List ℕ) (l : Layout file) where
       ∙ sym (numbers-are file l)))
 
   pub lists-move : takenFrom new ≡ movedLists (takenFrom file)
-  lists-move = four ids-stay counts-stay sets-move numbers-stay
+  lists-move = five ids-stay counts-stay sets-move lasts-stay numbers-stay
     where
-      four : {a b c a' b' c' : List ℕ} {d d' : List ℤ} → a ≡ a' → b ≡ b' → c ≡ c' → d ≡ d' → givenOf a b c d ≡ givenOf a' b' c' d'
-      four p q r s = rw (p, q, r, s) refl
+      five : {a b c d a' b' c' d' : List ℕ} {e e' : List ℤ} → a ≡ a' → b ≡ b' → c ≡ c' → d ≡ d' → e ≡ e' → givenOf a b c d e ≡ givenOf a' b' c' d' e'
+      five p q r s t = rw (p, q, r, s, t) refl
 
   none-old : NoneRetired new
   none-old i h e =

@@ -1,4 +1,4 @@
--- 02, No. 7 with No. 2: an old file is moved over by the writer: from its lists, with 0 for every 2, comes the same file with every 2 stored as 0. Definitions and statements.
+-- 02, No. 7 with No. 2 and No. 8: an old file is moved over by the writer: from its lists, with 0 for every 2, comes the same file with every 2 stored as 0. Definitions and statements.
 use Prim.Native.Nat.{ℕ, _≤_}
 use mathlib.Core.Path.{_≡_}
 use mathlib.Core.List.{List, map}
@@ -11,9 +11,9 @@ use Rattle.filing.specs.Taken.{takenFrom}
 use Rattle.filing.specs.Promise.{WritePromise}
 use Rattle.moving.specs.Moved.{movedSet, moved}
 
--- lists with 0 for every set of 2
+-- lists with 0 for every set of 2, and all else as it was, the last bytes too
 abbrev pub movedLists : Given → Given
-movedLists g = givenOf (g .ids) (g .counts) (map movedSet (g .sets)) (g .numbers)
+movedLists g = givenOf (g .ids) (g .counts) (map movedSet (g .sets)) (g .lasts) (g .numbers)
 
 -- so changed, the lists that the reader finds in a good file make the file so changed, byte for byte, in every room that holds it
 abbrev pub AllWrittenOver : Type 0

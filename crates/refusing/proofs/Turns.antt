@@ -2,9 +2,10 @@
 use Prim.Native.Nat.{ℕ, suc, _+_, _-_, _*_, _<_, _≤_}
 use mathlib.Core.Path.{_≡_, refl, sym, ap, _∙_}
 use mathlib.Core.Logic.{⊎-elim}
-use mathlib.Core.Bool.{Bool, true, false, cond, or-true}
+use mathlib.Core.Bool.{Bool, true, false, _||_, cond, or-true}
 use mathlib.Core.List.{List, []}
 use native.Mathlib.Omega.{arith}
+use native.Mathlib.Numerals.{add-one}
 use lib.Dec.{eqb}
 use lib.IntN.{ℤ, pos}
 use lib.ListN.{getD, take, drop}
@@ -38,19 +39,13 @@ module _ (f : ℕ → ℕ) (n i : ℕ) where
 pub first-all : (f : ℕ → ℕ) (n : ℕ) → firstFrom f n 0 ≡ firstFrom f (n - 0) 0
 first-all f n = let q : n ≡ n - 0 = omega arith in ap (λ m. firstFrom f m 0) q
 
--- ---- ids, from the latest to the first
-module _ (ids : List ℕ) (id j : ℕ) where
-  pub seen-here : getD ids j 0 ≡ id → true ≡ isSeen id (idsBefore ids (suc j))
-  unfolding isSeen any idsBefore
-  seen-here e = rw (eq-eqb id (getD ids j 0) (sym e)) refl
-
-  pub seen-further : (getD ids j 0 ≡ id → ⊥) → isSeen id (idsBefore ids (suc j)) ≡ isSeen id (idsBefore ids j)
-  unfolding isSeen any idsBefore
-  seen-further e = rw (ne-eqb id (getD ids j 0) (λ q. e (sym q))) refl
-
+-- ---- ids, from the first to the latest
 pub seen-none : (ids : List ℕ) (id : ℕ) → false ≡ isSeen id (idsBefore ids 0)
 unfolding isSeen any idsBefore
 seen-none ids id = refl
+
+pub seen-turn : (ids : List ℕ) (id j : ℕ) {seen : Bool} → seen ≡ isSeen id (idsBefore ids j) → (eqb id (getD ids j 0) || seen) ≡ isSeen id (idsBefore ids (j + 1))
+seen-turn ids id j p = ap (λ s. eqb id (getD ids j 0) || s) p ∙ sym (ap (λ n. isSeen id (idsBefore ids n)) (add-one j) ∙ (unfold isSeen any idsBefore in refl))
 
 -- ---- the number of an entry that is to be written
 -- a set over 1 is the one that is retired, or over 2 and none for the reader either
@@ -71,19 +66,19 @@ unfolding newEntryRule
 up-to-one e end seen h p = p ∙ sym (rw (ne-eqb (e .set) 2 (λ z. omega (arith, h, z))) refl)
 
 -- ---- where an entry begins does not matter to its number, if it is where the one before ended
-pub anywhere : (id first count set : ℕ) (seen : Bool) → newEntryRule (entryBy id first count set) first seen ≡ newEntryRule (entryBy id 0 count set) 0 seen
+pub anywhere : (id first count set last : ℕ) (seen : Bool) → newEntryRule (entryBy id first count set last) first seen ≡ newEntryRule (entryBy id 0 count set last) 0 seen
 unfolding newEntryRule entryRule isBadEntry
-anywhere id first count set seen = rw (eq-eqb first first refl) refl
+anywhere id first count set last seen = rw (eq-eqb first first refl) refl
 
-pub entry-is : (ids counts sets : List ℕ) (i : ℕ) {x : ℕ} {seen : Bool} → seen ≡ isSeen (getD ids i 0) (idsBefore ids i) → x ≡ newEntryRule (entryBy (getD ids i 0) 0 (getD counts i 0) (getD sets i 0)) 0 seen → entryNumber (givenOf ids counts sets []) i ≡ x
+pub entry-is : (ids counts sets lasts : List ℕ) (i : ℕ) {x : ℕ} {seen : Bool} → seen ≡ isSeen (getD ids i 0) (idsBefore ids i) → x ≡ newEntryRule (entryBy (getD ids i 0) 0 (getD counts i 0) (getD sets i 0) (getD lasts i 0)) 0 seen → entryNumber (givenOf ids counts sets lasts []) i ≡ x
 unfolding entryNumber entryOf
-entry-is ids counts sets i {x} {seen} s e =
-    ap (λ b. newEntryRule (entryBy (getD ids i 0) (24 * sumOf counts i) (getD counts i 0) (getD sets i 0)) (24 * sumOf counts i) b) (sym s)
-    ∙ (anywhere (getD ids i 0) (24 * sumOf counts i) (getD counts i 0) (getD sets i 0) seen ∙ sym e)
+entry-is ids counts sets lasts i {x} {seen} s e =
+    ap (λ b. newEntryRule (entryBy (getD ids i 0) (24 * sumOf counts i) (getD counts i 0) (getD sets i 0) (getD lasts i 0)) (24 * sumOf counts i) b) (sym s)
+    ∙ (anywhere (getD ids i 0) (24 * sumOf counts i) (getD counts i 0) (getD sets i 0) (getD lasts i 0) seen ∙ sym e)
 
 -- ---- counts, of which what is left is counted down
 sum-up : (counts : List ℕ) (n i : ℕ) → i ≤ n → sumOf counts i ≤ sumOf counts n
-sum-up counts = sum-grows (givenOf [] counts [] [])
+sum-up counts = sum-grows (givenOf [] counts [] [] [])
 
 module _ (counts : List ℕ) (n i left total : ℕ) (e : left + sumOf counts i ≡ total) where
   pub too-many : i < n → left < getD counts i 0 → false ≡ eqb (sumOf counts n) total
@@ -111,12 +106,12 @@ six p q r s t u = rw (p, q, r, s, t, u) refl
 -- by the bits of its numbers
 pub by-bits : (numbers : List ℤ) (x0 y0 x1 y1 x2 y2 : ℕ) {r : ℕ} →
     signed x0 ≡ getD numbers 0 (pos 0) → signed y0 ≡ getD numbers 1 (pos 0) → signed x1 ≡ getD numbers 2 (pos 0) → signed y1 ≡ getD numbers 3 (pos 0) → signed x2 ≡ getD numbers 4 (pos 0) → signed y2 ≡ getD numbers 5 (pos 0) →
-    r ≡ triangleRule (triangleOf (signed x0) (signed y0) (signed x1) (signed y1) (signed x2) (signed y2)) → r ≡ triangleNumber (givenOf [] [] [] numbers) 0
+    r ≡ triangleRule (triangleOf (signed x0) (signed y0) (signed x1) (signed y1) (signed x2) (signed y2)) → r ≡ triangleNumber (givenOf [] [] [] [] numbers) 0
 unfolding triangleNumber triangleIn
 by-bits numbers x0 y0 x1 y1 x2 y2 a b c d e f h = h ∙ six a b c d e f
 
 -- cut out of the list
-cut-six : (numbers : List ℤ) (k : ℕ) → triangleNumber (givenOf [] [] [] (take 6 (drop (6 * k) numbers))) 0 ≡ triangleNumber (givenOf [] [] [] numbers) k
+cut-six : (numbers : List ℤ) (k : ℕ) → triangleNumber (givenOf [] [] [] [] (take 6 (drop (6 * k) numbers))) 0 ≡ triangleNumber (givenOf [] [] [] [] numbers) k
 unfolding triangleNumber triangleIn
 cut-six numbers k =
     let q : 6 * k + 0 ≡ 6 * k = omega arith in
@@ -125,5 +120,5 @@ cut-six numbers k =
     at : (r : ℕ) → r < 6 → getD (take 6 (drop (6 * k) numbers)) r (pos 0) ≡ getD numbers (6 * k + r) (pos 0)
     at r h = getD-take 6 (drop (6 * k) numbers) r (pos 0) h ∙ getD-drop (6 * k) numbers r (pos 0)
 
-pub cut-out : (numbers : List ℤ) (k : ℕ) {r : ℕ} → r ≡ triangleNumber (givenOf [] [] [] (take (6 * k + 6 - 6 * k) (drop (6 * k) numbers))) 0 → triangleNumber (givenOf [] [] [] numbers) k ≡ r
-cut-out numbers k h = let q : 6 * k + 6 - 6 * k ≡ 6 = omega arith in sym (h ∙ (ap (λ w. triangleNumber (givenOf [] [] [] (take w (drop (6 * k) numbers))) 0) q ∙ cut-six numbers k))
+pub cut-out : (numbers : List ℤ) (k : ℕ) {r : ℕ} → r ≡ triangleNumber (givenOf [] [] [] [] (take (6 * k + 6 - 6 * k) (drop (6 * k) numbers))) 0 → triangleNumber (givenOf [] [] [] [] numbers) k ≡ r
+cut-out numbers k h = let q : 6 * k + 6 - 6 * k ≡ 6 = omega arith in sym (h ∙ (ap (λ w. triangleNumber (givenOf [] [] [] [] (take w (drop (6 * k) numbers))) 0) q ∙ cut-six numbers k))

@@ -112,11 +112,19 @@ fn put_twelve(room: &mut [u8], at: usize, a: u32, b: u32, w: u8, x: u8, y: u8, z
     }
 }
 
-// A table entry, whose last byte is zero, likewise.
-pub fn put_entry(room: &mut [u8], at: usize, id: u32, first: u32, count: u32, set: u8) -> usize
-    ensures { λ r. ⌜ Put (now (room .entry)) at (entryBytes (entryBy id first count set)) (now (room .exit)) r ⌝ }
+// A table entry likewise.
+pub fn put_entry(
+    room: &mut [u8],
+    at: usize,
+    id: u32,
+    first: u32,
+    count: u32,
+    set: u8,
+    last: u8,
+) -> usize
+    ensures { λ r. ⌜ Put (now (room .entry)) at (entryBytes (entryBy id first count set last)) (now (room .exit)) r ⌝ }
 {
-    put_twelve(room, at, id, first, low(count), low(count / 256), set, 0)
+    put_twelve(room, at, id, first, low(count), low(count / 256), set, last)
 }
 
 // Three numbers likewise, in four bytes each.

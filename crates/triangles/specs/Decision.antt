@@ -1,4 +1,4 @@
--- 02, No. 1 and No. 3, in the place of 01's "meets": what is decided of a pair of triangles, and whether it overlaps, touches or is apart. Whatever is asked of pairs above the triangles is asked of this decision. Definitions and statements.
+-- 02, No. 1, No. 3 and No. 8, in the place of 01's "meets": what is decided of a pair of triangles, and whether it overlaps, touches or is apart. Whatever is asked of pairs above the triangles is asked of this decision. Definitions and statements.
 use mathlib.Core.Path.{_≡_}
 use mathlib.Core.Logic.{_⊎_, _↔_}
 use mathlib.Core.Bool.{Bool, true, false, cond}
@@ -6,7 +6,7 @@ use mathlib.Core.List.{List, [], _∷_}
 use Prim.Native.Nat.{ℕ, _≤_}
 use lib.Dec.{eqb}
 use lib.ListN.{length}
-use lib.Ieee.{Float, lt}
+use lib.Ieee.{Float, binary64, add, lt}
 use Rattle.floats.specs.Finite.{nought}
 use Rattle.floats.specs.Lists.{count}
 use Rattle.floats.specs.OneAnswer.{NoSecond}
@@ -75,6 +75,20 @@ isApart (Refused k) = false
 isApart (Overlapping a) = false
 isApart Touching = false
 isApart Apart = true
+
+-- it is refused
+abbrev pub isRefused : Decision → Bool
+isRefused (Refused k) = true
+isRefused (Overlapping a) = false
+isRefused Touching = false
+isRefused Apart = false
+
+-- a sum of areas with that of one more pair: what overlaps adds its area, rounded once; a refused pair has none, and the others leave the sum as it is
+abbrev pub withArea : Float → Decision → Float
+withArea sum (Refused k) = sum
+withArea sum (Overlapping a) = add binary64 sum a
+withArea sum Touching = sum
+withArea sum Apart = sum
 
 -- ---- what is said of a decision
 -- the number of a refusal, or 0; the kind, 0 apart, 1 touching, 2 overlapping; the area. Beside a refusal's number there are zeros; there kind 0 does not say apart, since such a pair overlaps

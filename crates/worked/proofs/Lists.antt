@@ -9,7 +9,7 @@ use lib.Ieee.Fits.{and-l, and-r}
 use Rattle.floats.specs.Lists.{all}
 use Rattle.floats.proofs.Lists.{all-at, sameList, same-list}
 use Rattle.listing.specs.Listing.{ListAndRoom, listOf, outputOf}
-use Rattle.worked.specs.Lists.{Case, Shown, pointsOf, rooms, counts, boxes, olds, cases}
+use Rattle.worked.specs.Lists.{Case, Shown, pointsOf, rooms, counts, boxes, olds, slivers, cases}
 
 sameBytes : List ℕ → List ℕ → Bool
 unfolding sameList
@@ -52,6 +52,10 @@ olds-right : T (all right olds)
 unfolding all right add sub mul div neg lt le eq ofInt ofBits
 olds-right = tt
 
+slivers-right : T (all right slivers)
+unfolding all right add sub mul div neg lt le eq ofInt ofBits
+slivers-right = tt
+
 shown : (c : Case) → T (right c) → Shown c
 unfolding right fits sameBytes whole
 shown c t0 =
@@ -87,8 +91,11 @@ shown c t0 =
 pub worked : (c : Case) → List·Memᴰ c cases → Shown c
 worked c m = ⊎-elim (λ r. shown c (all-at right rooms rooms-right r)) others (List·Memᴰ·append-cases rooms m)
   where
-    last : List·Memᴰ c (boxes ++ olds) → Shown c
-    last r = ⊎-elim (λ b. shown c (all-at right boxes boxes-right b)) (λ o. shown c (all-at right olds olds-right o)) (List·Memᴰ·append-cases boxes r)
+    latest : List·Memᴰ c (olds ++ slivers) → Shown c
+    latest r = ⊎-elim (λ o. shown c (all-at right olds olds-right o)) (λ s. shown c (all-at right slivers slivers-right s)) (List·Memᴰ·append-cases olds r)
 
-    others : List·Memᴰ c (counts ++ (boxes ++ olds)) → Shown c
+    last : List·Memᴰ c (boxes ++ (olds ++ slivers)) → Shown c
+    last r = ⊎-elim (λ b. shown c (all-at right boxes boxes-right b)) latest (List·Memᴰ·append-cases boxes r)
+
+    others : List·Memᴰ c (counts ++ (boxes ++ (olds ++ slivers))) → Shown c
     others r = ⊎-elim (λ k. shown c (all-at right counts counts-right k)) last (List·Memᴰ·append-cases counts r)

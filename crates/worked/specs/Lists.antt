@@ -1,5 +1,5 @@
--- Lists worked by hand: 01's example with 02's closing lines, rooms around its length, files in which a wrong order, a wrong count, a wrong set or U for V would show, files of recordings that share an edge, a part of one, or a corner, files of far pairs, and old files. Definitions and statements.
-use Prim.Native.Nat.{ℕ, _+_}
+-- Lists worked by hand: 01's example with 02's closing lines, rooms around its length, files in which a wrong order, a wrong count, a wrong set or U for V would show, files of recordings that share an edge, a part of one, or a corner, files of far pairs, old files, and files of edition 2. Definitions and statements.
+use Prim.Native.Nat.{ℕ, _+_, _-_}
 use mathlib.Core.Path.{_≡_}
 use mathlib.Core.List.{List, [], _∷_, _++_}
 use lib.ListN.{replicate}
@@ -219,6 +219,71 @@ tenOld =
 abbrev pub tooMany : List ℕ
 tooMany = v ++ (u ++ (seven ++ (nine ++ trailer 48 65 84)))
 
+-- ---- edition 2
+-- (0,0),(20,0),(0,10), of own area 100; (0,0),(50,0),(0,10), of 250; and (100,100),(100,110),(120,100), of 100 as well, with e = −200
+abbrev pub uWide : List ℕ
+uWide = six (small 0) (small 0) (small 20) (small 0) (small 0) (small 10)
+
+abbrev pub uLong : List ℕ
+uLong = six (small 0) (small 0) (small 50) (small 0) (small 0) (small 10)
+
+abbrev pub uOther : List ℕ
+uOther = six (small 100) (small 100) (small 100) (small 110) (small 120) (small 100)
+
+-- (1,1),(2,1),(1,y), which lies in the first two and has half of y − 1 for its area: 0.5 for 2, 1 for 3, 1.5 for 4
+abbrev pub vOf : ℕ → List ℕ
+vOf y = six (small 1) (small 1) (small 2) (small 1) (small 1) (small y)
+
+-- (0,0),(20,0),(0,−4), with the edge from (0,0) to (20,0) of the first
+abbrev pub vUnder : List ℕ
+vUnder = six (small 0) (small 0) (small 20) (small 0) (small 0) (252 ∷ 255 ∷ 255 ∷ 255 ∷ [])
+
+-- test 9, of this last byte, with u, and training 7 with v
+abbrev pub byLast : ℕ → List ℕ → List ℕ → List ℕ
+byLast last u v = pairOf u v (changed 9 0 1 0 1 last) (changed 7 24 1 0 0 0)
+
+-- test 9 of edition 2, with one triangle, and 7 and 3 with one each; and 7 with both
+abbrev pub withTwo : List ℕ → List ℕ → List ℕ → List ℕ
+withTwo u v w = u ++ (v ++ (w ++ (changed 9 0 1 0 1 1 ++ (changed 7 24 1 0 0 0 ++ (changed 3 48 1 0 0 0 ++ trailer 72 3 120)))))
+
+abbrev pub withBoth : List ℕ → List ℕ → List ℕ → List ℕ
+withBoth u v w = u ++ (v ++ (w ++ (changed 9 0 1 0 1 1 ++ (changed 7 24 2 0 0 0 ++ trailer 72 2 108))))
+
+-- test 9 of edition 2 with two triangles, and 7 with one
+abbrev pub ofTwo : List ℕ → List ℕ → List ℕ → List ℕ
+ofTwo u t v = u ++ (t ++ (v ++ (changed 9 0 2 0 1 1 ++ (changed 7 48 1 0 0 0 ++ trailer 72 2 108))))
+
+-- tests 9 of edition 1 and 4 of edition 2, training 7 with the area 1, and 5 of set 2 with 1.5
+abbrev pub bothEditions : List ℕ
+bothEditions = uWide ++ (uWide ++ (vOf 3 ++ (vOf 4 ++ (changed 9 0 1 0 1 0 ++ (changed 4 24 1 0 1 1 ++ (changed 7 48 1 0 0 0 ++ (changed 5 72 1 0 2 0 ++ trailer 96 4 156)))))))
+
+-- (0,0),(8,0),(0,15), of own area 60; and (−w,6),(w,−4),(−w,−4), which cuts (0,0),(w/5,0),(0,1) off it: w/10
+abbrev pub uSixty : List ℕ
+uSixty = six (small 0) (small 0) (small 8) (small 0) (small 0) (small 15)
+
+abbrev pub uEighty : List ℕ
+uEighty = six (small 0) (small 0) (small 8) (small 0) (small 0) (small 20)
+
+abbrev pub minus : ℕ → List ℕ
+minus n = (256 - n) ∷ 255 ∷ 255 ∷ 255 ∷ []
+
+abbrev pub vTenths : ℕ → List ℕ
+vTenths w = six (minus w) (small 6) (small w) (minus 4) (minus w) (minus 4)
+
+-- test 9 of edition 2; training 7 with 0.1, 0.2 and 0.3, and training 8 with 0.3, 0.2 and 0.1: the sums are 0.6000000000000001 and 0.6
+abbrev pub sums : List ℕ
+sums =
+    uSixty ++ (vTenths 1 ++ (vTenths 2 ++ (vTenths 3 ++ (vTenths 3 ++ (vTenths 2 ++ (vTenths 1
+    ++ (changed 9 0 1 0 1 1 ++ (changed 7 24 3 0 0 0 ++ (changed 8 96 3 0 0 0 ++ trailer 168 3 216)))))))))
+
+-- (0,0),(11,0),(0,20), of own area 110: a hundredth of it is 1.1, and 100 times 1.1 is 110.00000000000001
+abbrev pub uHundredTen : List ℕ
+uHundredTen = six (small 0) (small 0) (small 11) (small 0) (small 0) (small 20)
+
+-- (0,0),(8,0),(0,20), of own area 80, twice, with 0.4, 0.1 and 0.3: added as they are decided they make 1.6000000000000003, by rows, or with the training triangles outside, 1.6
+abbrev pub rowByRow : List ℕ
+rowByRow = uEighty ++ (uEighty ++ (vTenths 4 ++ (vTenths 1 ++ (vTenths 3 ++ (changed 9 0 2 0 1 1 ++ (changed 7 48 3 0 0 0 ++ trailer 120 2 156))))))
+
 -- ---- what comes of them
 abbrev pub listedOld : List ℕ → ℕ → ℕ → ℕ → ℕ → ℕ → ℕ → List ℕ → ℕ → Case
 listedOld file room length leaks touching tested formerly text points = record { file = file; room = room; number = 0; place = 0; length = length; leaks = leaks; touching = touching; tested = tested; formerly = formerly; front = text; points = points; output = text }
@@ -310,6 +375,36 @@ olds =
     ∷ listed (mixedWith 0) 109 109 3 3 8 (first 3 ++ (line 9 7 1 ++ (line 9 5 1 ++ (line 9 3 2 ++ ends 3 0)))) 0
     ∷ []
 
+abbrev pub slivers : List Case
+slivers =
+    -- one per cent is no leak by edition 2, and not touching either; less is none, more is one; by edition 1 all are
+    listed (byLast 1 uWide (vOf 3)) 40 40 0 0 1 (noLine 0) 0
+    ∷ listed (byLast 1 uWide (vOf 2)) 40 40 0 0 1 (noLine 0) 0
+    ∷ listed (byLast 1 uWide (vOf 4)) 63 63 1 0 1 oneLine 0
+    ∷ listed (byLast 0 uWide (vOf 3)) 63 63 1 0 1 oneLine 0
+    ∷ notListed (byLast 1 uWide (vOf 4)) 62 7 0 oneLine
+    -- 0.6 per cent with each of two training recordings, and twice that with one, where N counts both
+    ∷ listed (withTwo uLong (vOf 4) (vOf 4)) 40 40 0 0 2 (noLine 0) 0
+    ∷ listed (withBoth uLong (vOf 4) (vOf 4)) 63 63 1 0 2 (first 1 ++ (line 9 7 2 ++ ends 0 0)) 0
+    -- the own area is that of all test triangles, whatever their orientation: 1.5, 2 and 2.5 of 200
+    ∷ listed (ofTwo uWide uOther (vOf 4)) 40 40 0 0 1 (noLine 0) 0
+    ∷ listed (ofTwo uOther uWide (vOf 5)) 40 40 0 0 1 (noLine 0) 0
+    ∷ listed (ofTwo uOther uWide (vOf 6)) 63 63 1 0 1 oneLine 0
+    -- one pair touches: alone it is counted, beside a sliver it is not
+    ∷ listed (byLast 1 uWide vUnder) 40 40 0 1 1 (noLine 1) 0
+    ∷ listed (withBoth uWide (vOf 3) vUnder) 40 40 0 0 2 (noLine 0) 0
+    ∷ listed (withTwo uWide (vOf 3) vUnder) 40 40 0 1 2 (noLine 1) 0
+    -- both editions in one file, beside training and set 2
+    ∷ listedOld bothEditions 109 109 3 0 4 1 (first 3 ++ (line 9 7 1 ++ (line 9 5 1 ++ (line 4 5 1 ++ ends 0 1)))) 0
+    -- two test triangles overlap: 3 of 200
+    ∷ listed (ofTwo uWide uWide (vOf 4)) 63 63 1 0 2 (first 1 ++ (line 9 7 2 ++ ends 0 0)) 0
+    -- the sum is multiplied, and the own area not divided
+    ∷ listed (byLast 1 uHundredTen (vTenths 11)) 63 63 1 0 1 oneLine 0
+    -- only the order of adding decides
+    ∷ listed sums 63 63 1 0 6 (first 1 ++ (line 9 7 3 ++ ends 0 0)) 0
+    ∷ listed rowByRow 63 63 1 0 6 (first 1 ++ (line 9 7 6 ++ ends 0 0)) 0
+    ∷ []
+
 -- all of them
 abbrev pub cases : List Case
-cases = rooms ++ (counts ++ (boxes ++ olds))
+cases = rooms ++ (counts ++ (boxes ++ (olds ++ slivers)))

@@ -37,7 +37,8 @@ fn main() -> ExitCode {
 /// and with every byte changed.
 fn chosen() -> Vec<Case> {
     let mut cases = Vec::new();
-    for file in [&SHORTEST[..], &EXAMPLE, &THREE] {
+    let second = changed(&EXAMPLE, 71, 1);
+    for file in [&SHORTEST[..], &EXAMPLE, &THREE, &second] {
         let past_32_bits = (1u64 << 32) as usize;
         for k in [0, 1, 2, 3, past_32_bits, past_32_bits + 1, usize::MAX] {
             cases.push(Case { k, file: file.to_vec() });

@@ -52,7 +52,7 @@ fn fits(case: &Case) -> bool {
 }
 
 /// Every room for the example, rooms that the lists worked by hand just fit and just do not, rooms that end
-/// before the last line where that counts some, and refused files with much room and with none.
+/// before the last line where that counts some, and refused files with much room and, some of them, with none.
 fn chosen() -> Vec<Case> {
     let mut cases = Vec::new();
     let mut add = |file: &[u8], room_length: usize| cases.push(Case { room_length, file: file.to_vec() });
@@ -71,9 +71,11 @@ fn chosen() -> Vec<Case> {
         all_files().into_iter().filter(|worked| worked.number != 0).map(|worked| worked.file).collect();
     refused.retain(|file| file.len() <= LONGEST_FILE);
     refused.push(too_many_recordings());
-    for file in refused {
-        add(&file, LONG_ROOM);
-        add(&file, 0);
+    for (k, file) in refused.iter().enumerate() {
+        add(file, LONG_ROOM);
+        if k % 3 == 0 {
+            add(file, 0);
+        }
     }
     cases
 }

@@ -17,6 +17,8 @@ struct Case {
 
 /// What the room has in every byte before the call.
 const UNWRITTEN: u8 = b'.';
+/// Bytes of the example's triangles.
+const NUMBERS_OF_EXAMPLE: usize = 48;
 /// How far beyond a file's length its rooms go.
 const MORE: usize = 13;
 
@@ -49,13 +51,13 @@ fn main() -> ExitCode {
 }
 
 fn fits(case: &Case) -> bool {
-    let Draft { ids, counts, sets, numbers } = &case.draft;
-    let entries = ids.len().max(counts.len()).max(sets.len());
+    let Draft { ids, counts, sets, lasts, numbers } = &case.draft;
+    let entries = ids.len().max(counts.len()).max(sets.len()).max(lasts.len());
     entries <= MOST_ENTRIES && numbers.len() <= MOST_NUMBERS && case.room_length <= MOST_ROOM
 }
 
 /// The drafts worked by hand, among them every refusal and every two at once; then every room for the
-/// shortest file and for the example, and rooms around the lengths of longer ones.
+/// shortest file, for the example those that its triangles fit, and rooms around the lengths of longer ones.
 fn chosen() -> Vec<Case> {
     let mut cases: Vec<Case> =
         all().into_iter().map(|worked| Case { room_length: worked.room, draft: worked.draft }).collect();
@@ -64,20 +66,22 @@ fn chosen() -> Vec<Case> {
         cases.extend((least..=most).map(|room_length| Case { room_length, draft: draft.clone() }));
     };
     add(Draft::default(), 0);
-    add(example(), 0);
+    add(example(), NUMBERS_OF_EXAMPLE);
     add(three(), three().length() - MORE);
     add(recordings(64), recordings(64).length() + MORE);
     cases
 }
 
 fn input_line(case: &Case) -> String {
-    let Draft { ids, counts, sets, numbers } = &case.draft;
+    let Draft { ids, counts, sets, lasts, numbers } = &case.draft;
     let mut line = format!("{:04x} ", case.room_length);
     ids.iter().for_each(|id| append_bytes(&mut line, &id.to_le_bytes()));
     line.push(' ');
     counts.iter().for_each(|count| append_bytes(&mut line, &count.to_le_bytes()));
     line.push(' ');
     append_bytes(&mut line, sets);
+    line.push(' ');
+    append_bytes(&mut line, lasts);
     line.push(' ');
     numbers.iter().for_each(|number| append_bytes(&mut line, &number.to_le_bytes()));
     line + "\n"

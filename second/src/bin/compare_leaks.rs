@@ -20,9 +20,9 @@ use second::random::Random;
 use second::tally::{covered, print_rows};
 
 const SEED: u64 = 20_011_946;
-const FILES: usize = 3_600;
+const FILES: usize = 6_000;
 /// From this many files on everything counted must have been hit often enough.
-const COVERING: usize = 3_600;
+const COVERING: usize = 6_000;
 const ENOUGH: usize = 20;
 
 const SIDES: [Side; 2] =
@@ -99,7 +99,7 @@ fn compare_all(seed: u64, files: usize) -> Result<Tally, String> {
         };
         let rooms = rooms_for(coverage.text(), many, &mut random);
         let compared = memory.compare(&file, &whole, &rooms, &mut random);
-        compared.and_then(|()| compare_with_twin(&file, coverage.held_back())).map_err(|report| {
+        compared.and_then(|()| compare_with_twins(&file, &coverage)).map_err(|report| {
             let name = &tally.rows[class].name;
             format!("difference at file {number} of seed {seed}, class '{name}'\n{report}")
         })?;
@@ -134,12 +134,19 @@ fn compare_endless() -> Result<(), String> {
     Ok(())
 }
 
-/// Either program, each with its own list: where nothing is held back there is no twin.
-fn compare_with_twin(file: &[u8], held_back: u32) -> Result<(), String> {
-    if held_back == 0 {
-        return Ok(());
+/// Either program, each with its own lists. Where nothing is held back there is no twin, and no other one where
+/// no test goes by the second edition.
+fn compare_with_twins(file: &[u8], coverage: &Coverage) -> Result<(), String> {
+    for side in &SIDES {
+        let shown = |report: String| report + &text_of(file);
+        if coverage.held_back() > 0 {
+            side.same_as_twin(file).map_err(shown)?;
+        }
+        if coverage.of_the_second_edition() {
+            side.has_lines_of_twin(file).map_err(shown)?;
+        }
     }
-    SIDES.iter().try_for_each(|side| side.same_as_twin(file).map_err(|report| report + &text_of(file)))
+    Ok(())
 }
 
 /// What is known of its list beforehand is looked at as well.

@@ -17,19 +17,19 @@ use second::files::sets::as_training;
 use second::files::shown;
 use second::files::worked::EXAMPLE;
 use second::footprint::{judge, recording, MOST_BYTES};
-use second::library;
+use second::library::{self, Lists};
 use second::pages::{endless, endless_room};
 use second::random::Random;
 use second::tally::{covered, print_rows, Row};
 use second::writer::{write, Handed, Written};
 
 const SEED: u64 = 20_011_946;
-const DRAFTS: usize = 14_400;
+const DRAFTS: usize = 20_400;
 /// From this many drafts on everything counted must have been hit often enough.
-const COVERING: usize = 14_400;
+const COVERING: usize = 20_400;
 const ENOUGH: usize = 50;
 /// For so many drafts, one file of each source is read and written again.
-const DRAFTS_PER_FILE: usize = 24;
+const DRAFTS_PER_FILE: usize = 34;
 
 const SIDES: [Side; 2] = [
     Side { name: "library", check: library::check, recording: library::recording, write: library::write },
@@ -105,23 +105,33 @@ fn compare_all(seed: u64, drafts: usize) -> Result<(Vec<Row>, Vec<Row>), String>
     Ok((tally.rows, write_again(seed, drafts / DRAFTS_PER_FILE)?))
 }
 
-/// More than 2^32 sets, then a room of more than 2^32 bytes.
+/// More than 2^32 sets, as many last bytes, then a room of more than 2^32 bytes.
 fn compare_endless() -> Result<(), String> {
     let draft = example();
-    let handed = Handed { sets: endless(&draft.sets), ..draft.handed() };
-    let mut room = [46; EXAMPLE.len()];
-    let of_library = library::write(handed, &mut room);
-    if of_library != write(handed, &mut []) || room != [46; EXAMPLE.len()] {
-        return Err(format!("difference at {} sets\n{of_library:?}", handed.sets.len()));
+    for handed in [
+        Handed { sets: endless(&draft.sets), ..draft.handed() },
+        Handed { lasts: endless(&draft.lasts), ..draft.handed() },
+    ] {
+        let mut room = [46; EXAMPLE.len()];
+        let of_library = library::write(handed, &mut room);
+        if of_library != write(handed, &mut []) || room != [46; EXAMPLE.len()] {
+            let lengths = [handed.sets.len(), handed.lasts.len()];
+            return Err(format!("difference at so many sets and lasts: {lengths:?}\n{of_library:?}"));
+        }
     }
     // To 32 bits one byte too few for the file, but there are many more.
     let front = vec![46; EXAMPLE.len() - 1];
     let (start, length) = endless_room(&front);
     let mut expected = [front, vec![0; MOST_BYTES]].concat();
     let of_second = write(draft.handed(), &mut expected);
-    let (ids, counts) = ((draft.ids.as_ptr(), 2), (draft.counts.as_ptr(), 2));
-    let (sets, numbers) = ((draft.sets.as_ptr(), 2), (draft.numbers.as_ptr(), draft.numbers.len()));
-    let of_library = unsafe { library::write_at(ids, counts, sets, numbers, start, length) };
+    let lists = Lists {
+        ids: (draft.ids.as_ptr(), 2),
+        counts: (draft.counts.as_ptr(), 2),
+        sets: (draft.sets.as_ptr(), 2),
+        lasts: (draft.lasts.as_ptr(), 2),
+        numbers: (draft.numbers.as_ptr(), draft.numbers.len()),
+    };
+    let of_library = unsafe { library::write_at(lists, start, length) };
     // The library is done with the room, and nobody else knows of it.
     let (front, back) = unsafe {
         let back = start.add(length - MOST_BYTES);
@@ -141,6 +151,7 @@ fn compare_null() -> Result<(), String> {
         Draft { ids: Vec::new(), ..example.clone() },
         Draft { counts: Vec::new(), ..example.clone() },
         Draft { sets: Vec::new(), ..example.clone() },
+        Draft { lasts: Vec::new(), ..example.clone() },
         Draft { numbers: Vec::new(), ..example.clone() },
         example,
     ];

@@ -35,14 +35,14 @@ impl Fill {
 pub struct Call {
     pub room: usize,
     pub fill: Fill,
-    /// Whether ids, counts, sets, numbers and room are lent as NULL where they are empty.
-    pub null: [bool; 5],
+    /// Whether ids, counts, sets, lasts, numbers and room are lent as NULL where they are empty.
+    pub null: [bool; 6],
 }
 
 impl Call {
     fn of(room: usize, random: &mut Random) -> Call {
         let all = random.once_in(4);
-        Call { room, fill: Fill::any(random), null: [0; 5].map(|_| all || random.once_in(2)) }
+        Call { room, fill: Fill::any(random), null: [0; 6].map(|_| all || random.once_in(2)) }
     }
 }
 

@@ -3,7 +3,7 @@
 use crate::files;
 use crate::files::draft::{some_place, Triangle};
 use crate::files::sets::trained_on;
-use crate::footprint::stored::{ENTRY, TRAILER, TRIANGLE};
+use crate::footprint::stored::{ENTRY, FIRST_EDITION, TRAILER, TRIANGLE};
 use crate::random::Random;
 use crate::writer::{Handed, NUMBERS};
 
@@ -12,6 +12,8 @@ pub struct Draft {
     pub ids: Vec<u32>,
     pub counts: Vec<u32>,
     pub sets: Vec<u8>,
+    /// The entries' last bytes.
+    pub lasts: Vec<u8>,
     pub numbers: Vec<i32>,
 }
 
@@ -23,6 +25,7 @@ impl From<files::draft::Draft> for Draft {
             ids: file.table.iter().map(|line| line.id).collect(),
             counts: file.table.iter().map(|line| u32::from(line.count)).collect(),
             sets: file.table.iter().map(|line| trained_on(line.set)).collect(),
+            lasts: file.table.iter().map(|line| line.last).collect(),
             numbers: file.triangles.concat(),
         }
     }
@@ -30,12 +33,23 @@ impl From<files::draft::Draft> for Draft {
 
 impl Draft {
     pub fn handed(&self) -> Handed<'_> {
-        Handed { ids: &self.ids, counts: &self.counts, sets: &self.sets, numbers: &self.numbers }
+        Handed {
+            ids: &self.ids,
+            counts: &self.counts,
+            sets: &self.sets,
+            lasts: &self.lasts,
+            numbers: &self.numbers,
+        }
     }
 
-    /// Those that all three lists have.
+    /// Of ids, counts, sets and last bytes.
+    pub fn lengths(&self) -> [usize; 4] {
+        [self.ids.len(), self.counts.len(), self.sets.len(), self.lasts.len()]
+    }
+
+    /// Those that all four lists have.
     pub fn recordings(&self) -> usize {
-        self.ids.len().min(self.counts.len()).min(self.sets.len())
+        self.lengths().into_iter().min().unwrap_or(0)
     }
 
     /// Whole ones.
@@ -57,11 +71,12 @@ impl Draft {
         TRIANGLE * self.triangles() + ENTRY * self.recordings() + TRAILER
     }
 
-    /// One more recording, of one triangle.
+    /// One more recording, of one triangle; a test goes by the first edition.
     pub fn add(&mut self, id: u32, set: u8, triangle: Triangle) {
         self.ids.push(id);
         self.counts.push(1);
         self.sets.push(set);
+        self.lasts.push(FIRST_EDITION);
         self.numbers.extend(triangle);
     }
 

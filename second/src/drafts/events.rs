@@ -1,5 +1,7 @@
 //! What a wrong program could do unseen unless a draft, or a way to lend it, brings it about.
 
+pub mod editions;
+
 use super::calls::Call;
 use super::coverage::Coverage;
 use super::faults::sum_of;
@@ -155,8 +157,8 @@ pub const AT_END: [Event; 7] = [
 pub type Lent = (&'static str, fn(&Coverage, &Call) -> bool);
 
 pub const ROOMS: [Lent; 18] = [
-    ("19, NULL", |c, call| c.good() && call.room == 0 && call.null[4]),
-    ("19, empty, not NULL", |c, call| c.good() && call.room == 0 && !call.null[4]),
+    ("19, NULL", |c, call| c.good() && call.room == 0 && call.null[5]),
+    ("19, empty, not NULL", |c, call| c.good() && call.room == 0 && !call.null[5]),
     ("19, 1 to 11 bytes", |c, call| c.good() && (1..12).contains(&call.room)),
     ("19, the triangles fit", |c, call| too_short(c, call) && call.room >= 24 * c.draft.triangles()),
     ("19, all but the trailer fit", |c, call| c.good() && call.room + 12 == c.draft.length()),
@@ -167,22 +169,23 @@ pub const ROOMS: [Lent; 18] = [
     ("no recordings, 11 bytes", |c, call| c.good() && recordings(c) == 0 && call.room == 11),
     ("no recordings, 12 bytes", |c, call| c.good() && recordings(c) == 0 && call.room == 12),
     ("no recordings, all lists NULL", |c, call| {
-        c.good() && recordings(c) == 0 && call.null[..4] == [true; 4] && call.room >= 12
+        c.good() && recordings(c) == 0 && call.null[..5] == [true; 5] && call.room >= 12
     }),
     ("file too long, room too short", |c, call| c.refused_for(Reason::TooLong) && short(c, call)),
     ("file too long, room as long", |c, call| {
         c.refused_for(Reason::TooLong) && call.room == c.draft.length()
     }),
     ("file too long, room longer", |c, call| c.refused_for(Reason::TooLong) && call.room > c.draft.length()),
-    ("refused before, NULL", |c, call| refused_before(c) && call.room == 0 && call.null[4]),
-    ("refused before, empty, not NULL", |c, call| refused_before(c) && call.room == 0 && !call.null[4]),
+    ("refused before, NULL", |c, call| refused_before(c) && call.room == 0 && call.null[5]),
+    ("refused before, empty, not NULL", |c, call| refused_before(c) && call.room == 0 && !call.null[5]),
     ("refused before, room for the file", |c, call| refused_before(c) && !short(c, call)),
 ];
 
 /// A list that is empty, in the order of `Call::null`.
 pub fn is_empty(c: &Coverage, list: usize) -> bool {
     let draft = c.draft;
-    [draft.ids.is_empty(), draft.counts.is_empty(), draft.sets.is_empty(), draft.numbers.is_empty()][list]
+    let lengths = draft.lengths();
+    lengths.get(list).map_or(draft.numbers.is_empty(), |length| *length == 0)
 }
 
 fn recordings(c: &Coverage) -> usize {

@@ -10,7 +10,7 @@ use crate::writer::{Reason, NUMBERS};
 /// The refusals in the order of the tests, each with all its reasons. 15 stands at two places.
 pub const STAGES: [(&str, &[Reason]); 8] = [
     ("15 at once", &[Reason::Lengths, Reason::BrokenOff]),
-    ("14", &[Reason::NoTriangles, Reason::Set]),
+    ("14", &[Reason::NoTriangles, Reason::Set, Reason::LastByte, Reason::EditionOfNoTest]),
     ("16", &[Reason::Id]),
     ("15 for the sum", &[Reason::Sum]),
     ("17", &[Reason::Range]),
@@ -44,7 +44,7 @@ pub fn faults_in(draft: &Draft) -> Vec<Fault> {
             faults.push(Fault { reason, at });
         }
     };
-    let lengths = [draft.ids.len(), draft.counts.len(), draft.sets.len()];
+    let lengths = draft.lengths();
     look(lengths.iter().any(|length| *length != lengths[0]), Reason::Lengths, 0);
     look(draft.numbers.len() % NUMBERS > 0, Reason::BrokenOff, 0);
     look_at_recordings(draft, &mut look);
@@ -66,6 +66,8 @@ fn look_at_recordings(draft: &Draft, look: Look) {
     for k in 0..draft.recordings() {
         look(draft.counts[k] == 0, Reason::NoTriangles, k);
         look(draft.sets[k] > 1, Reason::Set, k);
+        look(draft.lasts[k] > 1, Reason::LastByte, k);
+        look(draft.lasts[k] == 1 && draft.sets[k] != 1, Reason::EditionOfNoTest, k);
         look(!seen.insert(draft.ids[k]), Reason::Id, k);
     }
 }

@@ -18,6 +18,28 @@ pub fn of_one_set(random: &mut Random) -> Draft {
     draft
 }
 
+/// Some of the tests, or all of them, or every recording: then all are tests.
+pub fn of_the_second_edition(random: &mut Random) -> Draft {
+    let draft = match random.below(4) {
+        0 => good::one(random).into(),
+        1 => of_recordings(random, &[63, 64, 64]),
+        _ => good::few(random).into(),
+    };
+    in_the_second_edition(draft, random)
+}
+
+/// The same of any draft.
+pub fn in_the_second_edition(mut draft: Draft, random: &mut Random) -> Draft {
+    if random.once_in(3) {
+        draft.sets.fill(TEST);
+    }
+    let all = random.once_in(2);
+    for (set, last) in draft.sets.iter().zip(&mut draft.lasts) {
+        *last = u8::from(*set == TEST && (all || random.once_in(2)));
+    }
+    draft
+}
+
 /// A recording whose count takes two bytes, before or behind others.
 pub fn large_count(random: &mut Random) -> Draft {
     let triangle = shapes::any(random);

@@ -7,7 +7,7 @@ use super::worked::V;
 /// Its name, its number, and how it is made.
 pub struct Long(pub &'static str, pub u32, pub fn() -> Draft);
 
-pub const LONG: [Long; 20] = [
+pub const LONG: [Long; 23] = [
     Long("3,000 recordings", 13, || recordings(3_000)),
     Long("the last of 3,000 ids is the first", 16, || with(recordings(3_000), |d| d.ids[2_999] = d.ids[0])),
     Long("the last of 3,000 ids is the one before", 16, || {
@@ -16,6 +16,11 @@ pub const LONG: [Long; 20] = [
     Long("the last of 3,000 ids is another", 16, || with(recordings(3_000), |d| d.ids[2_999] = d.ids[1_700])),
     Long("the last of 3,000 sets is 2", 14, || with(recordings(3_000), |d| d.sets[2_999] = 2)),
     Long("the last of 3,000 sets is 3", 14, || with(recordings(3_000), |d| d.sets[2_999] = 3)),
+    Long("the last of 3,000 lasts is 1, of a test", 13, || with(recordings(3_000), |d| d.lasts[2_999] = 1)),
+    Long("the last of 3,000 lasts is 1, of a training", 14, || {
+        with(recordings(3_000), |d| (d.sets[2_999], d.lasts[2_999]) = (0, 1))
+    }),
+    Long("the last of 3,000 lasts is 2", 14, || with(recordings(3_000), |d| d.lasts[2_999] = 2)),
     Long("the last of 3,000 counts is zero", 14, || with(recordings(3_000), |d| d.counts[2_999] = 0)),
     Long("the last of 3,000 counts is too large", 15, || with(recordings(3_000), |d| d.counts[2_999] = 2)),
     // 2,048 times 2^21 are 2^32.
@@ -51,7 +56,13 @@ fn recordings(count: u32) -> Draft {
 }
 
 fn one_of(triangles: u32) -> Draft {
-    Draft { ids: vec![7], counts: vec![triangles], sets: vec![0], numbers: V.repeat(triangles as usize) }
+    Draft {
+        ids: vec![7],
+        counts: vec![triangles],
+        sets: vec![0],
+        lasts: vec![0],
+        numbers: V.repeat(triangles as usize),
+    }
 }
 
 fn with(mut draft: Draft, edit: fn(&mut Draft)) -> Draft {

@@ -1,10 +1,10 @@
-//! A draft lent to the library, with the room for its file: five pieces of memory between walls.
+//! A draft lent to the library, with the room for its file: six pieces of memory between walls.
 
 use super::calls::Call;
 use super::draft::Draft;
 use super::round_trips::Side;
 use super::shown::text_of;
-use crate::library::At;
+use crate::library::{At, Lists};
 use crate::pages::{Lent, Pages};
 use crate::random::Random;
 use crate::writer::{write, Written};
@@ -13,7 +13,7 @@ use crate::writer::{write, Written};
 pub const LONG_FILE: usize = 8_192;
 
 /// The library's writer, handed in so that programs without the library can do without it.
-pub type WriteAt = unsafe fn(At<u32>, At<u32>, At<u8>, At<i32>, *mut u8, usize) -> Written;
+pub type WriteAt = unsafe fn(Lists, *mut u8, usize) -> Written;
 
 pub struct Memory {
     library: WriteAt,
@@ -22,6 +22,7 @@ pub struct Memory {
     for_ids: Pages,
     for_counts: Pages,
     for_sets: Pages,
+    for_lasts: Pages,
     for_numbers: Pages,
     for_rooms: Pages,
 }
@@ -35,6 +36,7 @@ impl Memory {
             for_ids: Pages::default(),
             for_counts: Pages::default(),
             for_sets: Pages::default(),
+            for_lasts: Pages::default(),
             for_numbers: Pages::of(3),
             for_rooms: Pages::of(3),
         }
@@ -48,6 +50,7 @@ impl Memory {
             ids: self.for_ids.lend_list(&draft.ids, random),
             counts: self.for_counts.lend_list(&draft.counts, random),
             sets: self.for_sets.lend_list(&draft.sets, random),
+            lasts: self.for_lasts.lend_list(&draft.lasts, random),
             numbers: self.for_numbers.lend_list(&draft.numbers, random),
         };
         let mut unread = true;
@@ -80,34 +83,34 @@ struct LentDraft<'a> {
     ids: Lent<'a>,
     counts: Lent<'a>,
     sets: Lent<'a>,
+    lasts: Lent<'a>,
     numbers: Lent<'a>,
 }
 
 impl LentDraft<'_> {
     fn written_by(&self, library: WriteAt, call: &Call, room: &Lent) -> Written {
-        let Draft { ids, counts, sets, numbers } = self.draft;
-        let room_at = if call.room == 0 && call.null[4] { std::ptr::null_mut() } else { room.start };
+        let Draft { ids, counts, sets, lasts, numbers } = self.draft;
+        let room_at = if call.room == 0 && call.null[5] { std::ptr::null_mut() } else { room.start };
+        let lists = Lists {
+            ids: at(&self.ids, ids, call.null[0]),
+            counts: at(&self.counts, counts, call.null[1]),
+            sets: at(&self.sets, sets, call.null[2]),
+            lasts: at(&self.lasts, lasts, call.null[3]),
+            numbers: at(&self.numbers, numbers, call.null[4]),
+        };
         // All are lent as a whole, or empty, and from different memory.
-        unsafe {
-            library(
-                at(&self.ids, ids, call.null[0]),
-                at(&self.counts, counts, call.null[1]),
-                at(&self.sets, sets, call.null[2]),
-                at(&self.numbers, numbers, call.null[3]),
-                room_at,
-                call.room,
-            )
-        }
+        unsafe { library(lists, room_at, call.room) }
     }
 
     /// From what the lists were when they were lent.
     fn differences(&self) -> String {
-        let Draft { ids, counts, sets, numbers } = self.draft;
+        let Draft { ids, counts, sets, lasts, numbers } = self.draft;
         let mut differences = String::new();
         for (name, lent, same) in [
             ("ids", &self.ids, self.ids.holds(ids)),
             ("counts", &self.counts, self.counts.holds(counts)),
             ("sets", &self.sets, self.sets.holds(sets)),
+            ("lasts", &self.lasts, self.lasts.holds(lasts)),
             ("numbers", &self.numbers, self.numbers.holds(numbers)),
         ] {
             if !same {

@@ -11,9 +11,10 @@ pub fn all() -> Vec<Worked> {
 type Plant = fn(&mut Worked);
 
 /// A fault of every stage, in the order of the tests, that can be planted beside any other in `three`.
-const FAULTS: [(u32, Plant); 8] = [
+const FAULTS: [(u32, Plant); 9] = [
     (15, |w| w.draft.sets.push(0)),
     (14, |w| w.draft.sets[1] = 2),
+    (14, |w| w.draft.lasts[1] = 1),
     (16, |w| w.draft.ids[2] = 0),
     (15, |w| w.draft.counts[2] += 1),
     (17, |w| w.draft.numbers[9] = OVER),
@@ -59,6 +60,27 @@ fn within() -> Vec<Worked> {
         of(14, |d| (d.ids[2], d.sets[0]) = (0, 255)),
         of(16, |d| (d.ids[1], d.sets[2]) = (0, 3)),
         of(16, |d| (d.ids[1], d.counts[2]) = (0, 0)),
+        // The last byte, and the id of its own entry, of the one behind it and of the one before.
+        of(14, |d| (d.ids[1], d.lasts[1]) = (0, 1)),
+        of(14, |d| (d.ids[1], d.lasts[1]) = (0, 2)),
+        of(14, |d| (d.ids[2], d.lasts[2]) = (0, 2)),
+        of(14, |d| (d.ids[2], d.lasts[2]) = (0, 255)),
+        of(14, |d| (d.ids[1], d.lasts[0]) = (0, 1)),
+        of(14, |d| (d.ids[2], d.lasts[1]) = (0, 1)),
+        of(14, |d| (d.ids[2], d.lasts[1]) = (0, 128)),
+        of(16, |d| (d.ids[1], d.lasts[2]) = (0, 2)),
+        of(16, |d| (d.ids[1], d.sets[2], d.lasts[2]) = (0, 0, 1)),
+        // A last byte that a test may have is not looked at again.
+        of(16, |d| (d.ids[2], d.lasts[2]) = (0, 1)),
+        of(16, |d| (d.ids[1], d.lasts[2]) = (0, 1)),
+        of(15, |d| (d.counts[2], d.lasts[2]) = (2, 1)),
+        // A last byte too many, and what else there is.
+        of(15, |d| (d.lasts, d.sets[1]) = (vec![0; 4], 2)),
+        of(15, |d| (d.lasts, d.counts[2]) = (vec![0, 0, 2, 0], 0)),
+        of(15, |d| (d.lasts, d.ids[1]) = (vec![0; 2], 0)),
+        of(15, |d| (d.lasts, d.numbers[9]) = (vec![0; 2], OVER)),
+        of(17, |d| (d.numbers[0], d.lasts[2]) = (OVER, 1)),
+        of(18, |d| (d.numbers[4], d.lasts[2]) = (0, 1)),
         of(17, |d| d.set_triangle(1, [0, 0, 4, 0, OVER, 0])),
         of(17, |d| d.set_triangle(1, [UNDER; 6])),
         of(18, |d| (d.numbers[4], d.numbers[6]) = (0, OVER)),

@@ -30,11 +30,23 @@ pub fn two(random: &mut Random) -> Draft {
 
 /// The set that is retired, and a fault of any other stage, or more triangles than a file can have.
 pub fn held_back_and_another(random: &mut Random) -> Draft {
-    let draft = match random.pick(&[0, 2, 3, 4, 5, 6, 7]) {
+    let draft = with_another(random);
+    spoiled(draft, random, spoils::held_back)
+}
+
+/// The same with a last byte in its place.
+pub fn last_byte_and_another(random: &mut Random) -> Draft {
+    let draft = with_another(random);
+    let spoil = random.pick(&[spoils::last_byte as Spoil, spoils::edition_of_no_test]);
+    spoiled(draft, random, spoil)
+}
+
+/// A fault of any stage but that of entries by themselves.
+fn with_another(random: &mut Random) -> Draft {
+    match random.pick(&[0, 2, 3, 4, 5, 6, 7]) {
         7 => good::far_too_long(random),
         stage => with(base(random), &[stage], random),
-    };
-    spoiled(draft, random, spoils::held_back)
+    }
 }
 
 pub fn the_same_twice(random: &mut Random) -> Draft {

@@ -3,7 +3,7 @@
 
 use super::draft::Draft;
 use crate::files::{self, Class};
-use crate::footprint::stored::{HELD_BACK, TRIANGLE};
+use crate::footprint::stored::{HELD_BACK, SECOND_EDITION, TEST, TRIANGLE};
 use crate::footprint::{judge, Entry, Verdict};
 use crate::lists;
 use crate::random::Random;
@@ -35,7 +35,7 @@ impl Side {
                 first: (TRIANGLE * before) as u32,
                 count: draft.counts[k],
                 set: u32::from(draft.sets[k]),
-                last: 0,
+                last: u32::from(draft.lasts[k]),
             };
             let entry = (self.recording)(file, k);
             let numbers = &draft.numbers[NUMBERS * before..][..NUMBERS * draft.counts[k] as usize];
@@ -75,6 +75,7 @@ impl Side {
                     draft.ids.push(entry.id);
                     draft.counts.push(entry.count);
                     draft.sets.push(u8::try_from(entry.set).ok()?);
+                    draft.lasts.push(u8::try_from(entry.last).ok()?);
                     draft.numbers.extend(numbers_of(entry, file)?);
                 }
                 10 => return Some(draft),
@@ -111,7 +112,7 @@ pub fn file_from(source: usize, random: &mut Random) -> Vec<u8> {
 type Event = (&'static str, fn(&Draft) -> bool);
 
 /// Looked at in files that come back as the very bytes.
-const WRITTEN: [Event; 8] = [
+const WRITTEN: [Event; 15] = [
     ("no recordings", |d| d.ids.is_empty()),
     ("1 recording", |d| d.ids.len() == 1),
     ("64 recordings", |d| d.ids.len() == 64),
@@ -120,10 +121,19 @@ const WRITTEN: [Event; 8] = [
     ("set 1 alone", |d| !d.sets.is_empty() && d.sets.iter().all(|set| *set == 1)),
     ("a count over 255", |d| d.counts.iter().any(|count| *count > 255)),
     ("65,532 bytes", |d| d.length() == 65_532),
+    ("last byte 0 in every entry", |d| second_edition_in(d) == 0),
+    ("last byte 1 of the only recording", |d| d.lasts == [SECOND_EDITION]),
+    ("last byte 1 of the first of several", |d| d.lasts.len() > 1 && d.lasts[0] == SECOND_EDITION),
+    ("last byte 1 of the last of several", |d| d.lasts.len() > 1 && d.lasts.last() == Some(&SECOND_EDITION)),
+    ("last byte 1 of all of several tests", |d| {
+        second_edition_in(d) > 1 && second_edition_in(d) == tests_in(d)
+    }),
+    ("last bytes 0 and 1 of tests", |d| second_edition_in(d) > 0 && second_edition_in(d) < tests_in(d)),
+    ("last byte 1 among 64 recordings", |d| d.ids.len() == 64 && second_edition_in(d) > 0),
 ];
 
 /// Looked at in files that are refused, as something is held back.
-const REFUSED: [Event; 9] = [
+const REFUSED: [Event; 10] = [
     ("the only recording", |d| d.sets == [HELD_BACK]),
     ("one of several recordings", |d| d.sets.len() > 1 && held_back_in(d) == 1),
     ("the first alone of several", |d| is_alone(d, 0)),
@@ -133,7 +143,16 @@ const REFUSED: [Event; 9] = [
     ("64 recordings", |d| d.ids.len() == 64),
     ("a count over 255", |d| d.counts.iter().any(|count| *count > 255)),
     ("65,532 bytes", |d| d.length() == 65_532),
+    ("a last byte of 1 beside it", |d| second_edition_in(d) > 0),
 ];
+
+fn second_edition_in(draft: &Draft) -> usize {
+    draft.lasts.iter().filter(|last| **last == SECOND_EDITION).count()
+}
+
+fn tests_in(draft: &Draft) -> usize {
+    draft.sets.iter().filter(|set| **set == TEST).count()
+}
 
 fn held_back_in(draft: &Draft) -> usize {
     draft.sets.iter().filter(|set| **set == HELD_BACK).count()

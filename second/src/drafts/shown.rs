@@ -10,6 +10,7 @@ pub fn text_of(draft: &Draft) -> String {
         ("ids", list(&draft.ids)),
         ("counts", list(&draft.counts)),
         ("sets", list(&draft.sets)),
+        ("lasts", list(&draft.lasts)),
         ("numbers", list(&draft.numbers)),
     ];
     lists.map(|(name, text)| format!("{name} {text}\n")).concat()

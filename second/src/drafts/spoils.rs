@@ -2,7 +2,7 @@
 
 use super::draft::Draft;
 use crate::files::shapes;
-use crate::footprint::stored::HELD_BACK;
+use crate::footprint::stored::{FIRST_EDITION, HELD_BACK, SECOND_EDITION, TEST, TRAINING};
 use crate::random::Random;
 use crate::writer::NUMBERS;
 
@@ -12,7 +12,7 @@ pub type Spoil = fn(&mut Draft, &mut Random);
 /// room, or thousands of triangles.
 pub const SPOILS: [&[Spoil]; 7] = [
     &[lengths, broken_off, lengths_and_broken_off],
-    &[no_triangles, set, held_back, set_and_id],
+    &[no_triangles, set, held_back, set_and_id, last_byte, edition_of_no_test, last_byte_and_id],
     &[id],
     &[sum, wrapping_sum, wrapping_multiple, huge_count],
     &[coordinate, coordinate, coordinate_of_flat],
@@ -25,22 +25,23 @@ pub fn any_of(stage: usize, draft: &mut Draft, random: &mut Random) {
     spoil(draft, random);
 }
 
-/// One of the three lists shorter or longer than the others, or empty, or the only one that is not; or one
-/// shorter, one longer and the third between them.
+/// One of the four lists shorter or longer than the others, or empty, or the only one that is not; or one
+/// shorter and one longer than the two others; or two shorter or longer than these.
 pub fn lengths(draft: &mut Draft, random: &mut Random) {
     let (right, some) = (draft.recordings(), 1 + random.below(3));
     let shorter = right.saturating_sub(random.pick(&[1, 1, some]));
     let longer = right + random.pick(&[1, 1, some]);
     let (wrong, others) = random.pick(&[(shorter, right), (longer, right), (0, right), (right, 0)]);
-    let mut lengths = if random.once_in(4) {
-        [right.saturating_sub(some), right, right + some]
-    } else {
-        [wrong, others, others]
+    let mut lengths = match random.below(9) {
+        0..=2 => [right.saturating_sub(some), right, right, right + some],
+        3 => [wrong, wrong, others, others],
+        _ => [wrong, others, others, others],
     };
     random.shuffle(&mut lengths);
     draft.ids.resize(lengths[0], random.bits() as u32);
     draft.counts.resize(lengths[1], 1);
-    draft.sets.resize(lengths[2], 1);
+    draft.sets.resize(lengths[2], TEST);
+    draft.lasts.resize(lengths[3], random.pick(&[FIRST_EDITION, SECOND_EDITION]));
 }
 
 /// Some numbers of one more triangle, or the last triangle without some of its numbers.
@@ -100,7 +101,73 @@ pub fn held_back_beside_id(draft: &mut Draft, random: &mut Random) {
     }
 }
 
-/// The id of the previous entry, the first one or any before it.
+/// One that no recording can have, in one entry or in all behind it.
+pub fn last_byte(draft: &mut Draft, random: &mut Random) {
+    if let Some(k) = draft.some_recording(random) {
+        let any = 2 + random.below(254) as u8;
+        let last = random.pick(&[2, 2, 3, 128, 129, 255, any, any]);
+        if random.once_in(6) {
+            draft.lasts[k..].fill(last);
+        } else {
+            draft.lasts[k] = last;
+        }
+    }
+}
+
+/// One that tests alone can have, in an entry that is training or, at times, of another set that is no test; or
+/// in all entries, of which some are none.
+pub fn edition_of_no_test(draft: &mut Draft, random: &mut Random) {
+    if let Some(k) = draft.some_recording(random) {
+        if draft.sets[k] == TEST {
+            draft.sets[k] = random.pick(&[TRAINING, TRAINING, TRAINING, HELD_BACK, 3]);
+        }
+        draft.lasts[k] = SECOND_EDITION;
+        if random.once_in(6) {
+            draft.lasts.fill(SECOND_EDITION);
+        }
+    }
+}
+
+/// Any of these in one entry, and no triangles or a wrong set in it too.
+pub fn last_byte_and_other_14(draft: &mut Draft, random: &mut Random) {
+    if let Some(k) = draft.some_recording(random) {
+        draft.lasts[k] = random.pick(&[SECOND_EDITION, 2, 255]);
+        match random.below(3) {
+            0 => (draft.sets[k], draft.counts[k]) = (TRAINING, 0),
+            1 => draft.sets[k] = HELD_BACK,
+            _ => draft.sets[k] = 3 + random.below(253) as u8,
+        }
+    }
+}
+
+/// One of these, and an id already seen, of one entry; or of the next or of the one before it.
+pub fn last_byte_beside_id(draft: &mut Draft, random: &mut Random) {
+    if draft.recordings() > 2 {
+        let k = 1 + random.below(draft.recordings() - 2);
+        let (wrong, twin) =
+            random.pick(&[(k, k), (k + 1, k + 1), (k, k + 1), (k, k + 1), (k + 1, k), (k + 1, k)]);
+        refused_last(draft, wrong, random);
+        draft.ids[twin] = draft.ids[random.below(k)];
+    }
+}
+
+/// Of one entry.
+fn last_byte_and_id(draft: &mut Draft, random: &mut Random) {
+    if draft.recordings() > 1 {
+        let k = 1 + random.below(draft.recordings() - 1);
+        refused_last(draft, k, random);
+        draft.ids[k] = draft.ids[random.below(k)];
+    }
+}
+
+fn refused_last(draft: &mut Draft, k: usize, random: &mut Random) {
+    draft.lasts[k] = random.pick(&[SECOND_EDITION, SECOND_EDITION, 2, 128, 255]);
+    if draft.lasts[k] == SECOND_EDITION {
+        draft.sets[k] = TRAINING;
+    }
+}
+
+/// The id of the previous entry, the first one or any before it; at times of a test of the second edition.
 pub fn id(draft: &mut Draft, random: &mut Random) {
     if draft.recordings() > 1 {
         let last = draft.recordings() - 1;
@@ -108,6 +175,9 @@ pub fn id(draft: &mut Draft, random: &mut Random) {
         let k = random.pick(&[1, last, some]);
         let some = random.below(k);
         draft.ids[k] = draft.ids[random.pick(&[0, k - 1, some])];
+        if draft.sets[k] == TEST && random.once_in(2) {
+            draft.lasts[k] = SECOND_EDITION;
+        }
     }
 }
 

@@ -2,9 +2,10 @@
 
 use std::cmp::Ordering;
 
-use super::at_once::{between, broken_off, odd_one, LENGTHS, LISTS};
+use super::at_once::{broken_off, made_up_for, odd_one, two_by_two, LENGTHS, LISTS};
 use super::calls::{Call, NEAR};
 use super::coverage::{Coverage, AT_ROOM};
+use super::events::editions::{AT_LAST_BYTE, ORDERS as LAST_BYTE_ORDERS, WRITTEN_EDITIONS};
 use super::events::{is_empty, Event, AT_END, AT_ENTRY, AT_SUM, AT_TRIANGLE, HELD_BACK_ORDERS};
 use super::events::{RECORDINGS, ROOMS, WRITTEN};
 use super::faults::STAGES;
@@ -32,13 +33,14 @@ impl Default for Tally {
             let name = format!("{number}, whatever the room");
             tally.add_test("number", name, move |c| c.number() == number);
         }
-        for (name, test) in WRITTEN {
+        for (name, test) in WRITTEN.into_iter().chain(WRITTEN_EDITIONS) {
             tally.add_test("written", name.to_string(), move |c| c.good() && test(c));
         }
         tally.add_events("recordings", &RECORDINGS);
         tally.add_at_once();
         tally.add_entries();
         tally.add_events("refusal", &AT_ENTRY);
+        tally.add_events("refusal", &AT_LAST_BYTE);
         tally.add_events("refusal", &AT_SUM);
         tally.add_events("refusal", &AT_TRIANGLE);
         for index in 0..6 {
@@ -50,6 +52,7 @@ impl Default for Tally {
         tally.add_events("refusal", &AT_END);
         tally.add_orders();
         tally.add_events("order", &HELD_BACK_ORDERS);
+        tally.add_events("order", &LAST_BYTE_ORDERS);
         tally.add_calls();
         tally
     }
@@ -87,8 +90,14 @@ impl Tally {
                 let name = format!("15 at once, {name} {how}");
                 self.add_test("refusal", name, move |c| odd_one(c, list, test));
             }
-            let name = format!("15 at once, {name} between the others");
-            self.add_test("refusal", name, move |c| between(c, list));
+            for other in (0..LISTS.len()).filter(|other| *other != list) {
+                let name = format!("15 at once, {name} shorter and {} longer", LISTS[other]);
+                self.add_test("refusal", name, move |c| made_up_for(c, list, other));
+            }
+        }
+        for (other, name) in LISTS.into_iter().enumerate().skip(1) {
+            let name = format!("15 at once, ids and {name} alike, and the others");
+            self.add_test("refusal", name, move |c| two_by_two(c, other));
         }
         for some in 1..6 {
             for (counted, words) in [(false, "not counted"), (true, "counted")] {
@@ -101,7 +110,12 @@ impl Tally {
     }
 
     fn add_entries(&mut self) {
-        let reasons = [(Reason::NoTriangles, "no triangles"), (Reason::Set, "set")];
+        let reasons = [
+            (Reason::NoTriangles, "no triangles"),
+            (Reason::Set, "set"),
+            (Reason::LastByte, "last byte over 1"),
+            (Reason::EditionOfNoTest, "last byte 1 of a training"),
+        ];
         let entries = [(Of::First, "first"), (Of::Middle, "middle"), (Of::Last, "last")];
         for (reason, words) in reasons {
             for (entry, which) in entries {
@@ -152,7 +166,7 @@ impl Tally {
             let long = move |c: &Coverage, call: &Call| c.good() && call.room == c.draft.length() + by;
             self.add_test_of_calls("room", format!("{by} longer"), long);
         }
-        for (list, name) in [LISTS[0], LISTS[1], LISTS[2], "numbers"].into_iter().enumerate() {
+        for (list, name) in LISTS.into_iter().chain(["numbers"]).enumerate() {
             for (null, words) in [(true, "NULL"), (false, "empty, not NULL")] {
                 let test = move |c: &Coverage, call: &Call| is_empty(c, list) && call.null[list] == null;
                 self.add_test_of_calls("empty", format!("{name} {words}"), test);

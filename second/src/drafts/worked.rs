@@ -29,6 +29,7 @@ pub fn example() -> Draft {
         ids: vec![7, 9],
         counts: vec![1, 1],
         sets: vec![0, 1],
+        lasts: vec![0, 0],
         numbers: vec![0, 0, 4, 0, 0, 4, 1, 1, -3, 1, 1, -3],
     }
 }
@@ -40,6 +41,7 @@ pub fn three() -> Draft {
         ids: vec![0, 4_294_967_295, 5],
         counts: vec![1, 2, 1],
         sets: vec![0, 0, 1],
+        lasts: vec![0, 0, 0],
         numbers: vec![
             0, 0, 0, 4, 4, 0,
             1_000_000, 1_000_000, -1_000_000, 1_000_000, 1_000_000, -1_000_000,
@@ -90,6 +92,11 @@ fn written() -> Vec<Worked> {
         let draft = Draft { sets: sets.to_vec(), ..example() };
         good(draft, &[&EXAMPLE[..58], &sets[..1], &EXAMPLE[59..70], &sets[1..], &EXAMPLE[71..]].concat())
     };
+    let of_editions = |sets: [u8; 2], lasts: [u8; 2]| {
+        let draft = Draft { sets: sets.to_vec(), lasts: lasts.to_vec(), ..example() };
+        let entries = [&[sets[0], lasts[0]], &EXAMPLE[60..70], &[sets[1], lasts[1]]].concat();
+        good(draft, &[&EXAMPLE[..58], &entries, &EXAMPLE[72..]].concat())
+    };
     vec![
         good(Draft::default(), &SHORTEST),
         good(example(), &EXAMPLE),
@@ -99,7 +106,24 @@ fn written() -> Vec<Worked> {
         of_sets([1, 0]),
         of_sets([0, 0]),
         of_sets([1, 1]),
+        of_editions([0, 1], [0, 1]),
+        of_editions([1, 0], [1, 0]),
+        of_editions([1, 1], [1, 0]),
+        of_editions([1, 1], [0, 1]),
+        of_editions([1, 1], [1, 1]),
+        good(Draft { lasts: vec![0, 0, 1], ..three() }, &changed(&file_of_three(), 131, 1)),
+        of_the_second_edition(12),
     ]
+}
+
+/// This many recordings, and all tests among them go by the second edition.
+fn of_the_second_edition(count: u8) -> Worked {
+    let mut draft = recordings(count);
+    draft.lasts = draft.sets.clone();
+    let mut file = numbered_of(count, 2);
+    let (table, end) = (24 * usize::from(count), file.len() - 12);
+    file[table..end].chunks_exact_mut(12).for_each(|entry| entry[11] = entry[10]);
+    good(draft, &file)
 }
 
 /// The first recording has the example's two triangles, the second has V.
@@ -118,25 +142,37 @@ fn at_once() -> Vec<Worked> {
         spoiled(15, |d| d.ids.truncate(1)),
         spoiled(15, |d| d.counts.truncate(1)),
         spoiled(15, |d| d.sets.truncate(1)),
+        spoiled(15, |d| d.lasts.truncate(1)),
         spoiled(15, |d| d.ids.push(11)),
         spoiled(15, |d| d.counts.push(1)),
         spoiled(15, |d| d.sets.push(0)),
+        spoiled(15, |d| d.lasts.push(0)),
         spoiled(15, |d| d.ids.clear()),
         spoiled(15, |d| d.counts.clear()),
         spoiled(15, |d| d.sets.clear()),
-        // Two of the three agree, with the triangles that the counts ask for.
+        spoiled(15, |d| d.lasts.clear()),
         spoiled(15, |d| d.ids.extend([11, 12])),
+        spoiled(15, |d| d.lasts.extend([0, 1])),
+        // Two of the four agree, and so do the two others, with the triangles that the counts ask for.
         spoiled(15, |d| (d.ids, d.sets) = (vec![7], vec![0])),
         spoiled(15, |d| (d.ids, d.counts) = (vec![7], vec![2])),
         spoiled(15, |d| (d.counts, d.sets) = (vec![2], vec![0])),
-        // Together as long as three equal ones.
+        spoiled(15, |d| (d.sets, d.lasts) = (vec![1], vec![1])),
+        spoiled(15, |d| (d.sets, d.lasts) = (vec![0, 1, 1], vec![0, 1, 1])),
+        // Three of them agree, with those triangles.
+        spoiled(15, |d| (d.ids, d.counts, d.sets) = (vec![7], vec![2], vec![1])),
+        spoiled(15, |d| (d.counts, d.sets, d.lasts) = (vec![2], vec![1], vec![1])),
+        // Together as long as equal ones.
         spoiled(15, |d| (d.ids, d.sets) = (vec![7], vec![0, 1, 2])),
         spoiled(15, |d| (d.ids, d.counts) = (vec![7], vec![1, 1, 1])),
         spoiled(15, |d| (d.counts, d.sets) = (vec![2], vec![0, 1, 2])),
         spoiled(15, |d| (d.counts, d.sets) = (vec![1, 1, 1], vec![0])),
+        spoiled(15, |d| (d.sets, d.lasts) = (vec![0, 1, 1], vec![0])),
+        spoiled(15, |d| (d.ids, d.lasts) = (vec![7], vec![0, 0, 0])),
         refused(15, Draft { ids: vec![7], ..Draft::default() }),
         refused(15, Draft { counts: vec![1], ..Draft::default() }),
         refused(15, Draft { sets: vec![0], ..Draft::default() }),
+        refused(15, Draft { lasts: vec![0], ..Draft::default() }),
     ];
     for numbers in [7, 8, 9, 10, 11, 13, 14, 15, 16, 17] {
         all.push(spoiled(15, |d| d.numbers.resize(numbers, 1)));
@@ -161,6 +197,19 @@ fn at_an_entry() -> Vec<Worked> {
         all.push(spoiled(14, |d| d.sets[1] = set));
     }
     all.push(spoiled(14, |d| d.sets = vec![2, 2]));
+    for last in [2, 3, 4, 127, 128, 129, 255] {
+        all.push(spoiled(14, |d| d.lasts[0] = last));
+        all.push(spoiled(14, |d| d.lasts[1] = last));
+    }
+    // 1 where there is no test: the first entry is training, and so is the second one in its turn.
+    all.push(spoiled(14, |d| d.lasts = vec![1, 0]));
+    all.push(spoiled(14, |d| d.lasts = vec![1, 1]));
+    all.push(spoiled(14, |d| (d.sets, d.lasts) = (vec![1, 0], vec![0, 1])));
+    all.push(spoiled(14, |d| (d.sets, d.lasts) = (vec![1, 0], vec![1, 1])));
+    all.push(spoiled(14, |d| (d.sets, d.lasts) = (vec![1, 2], vec![1, 1])));
+    all.push(spoiled(14, |d| (d.sets, d.lasts) = (vec![3, 1], vec![1, 1])));
+    all.push(spoiled(14, |d| (d.counts[1], d.lasts[1]) = (0, 1)));
+    all.push(spoiled(14, |d| (d.counts[0], d.lasts[0]) = (0, 2)));
     all.extend((0..3).map(|entry| {
         let mut draft = three();
         draft.sets[entry] = 2;
@@ -254,8 +303,8 @@ fn at_the_end() -> Vec<Worked> {
     ]
 }
 
-/// The example with every set in either entry, and every number at the ends of the range and of its type and
-/// beside them.
+/// The example with every set in either entry, every last byte, and every set beside a last byte of 1; and
+/// every number at the ends of the range and of its type and beside them.
 pub fn in_turn() -> Vec<Draft> {
     const ENDS: [i32; 4] = [1_000_000, -1_000_000, i32::MAX, i32::MIN];
     let mut all = Vec::new();
@@ -266,6 +315,8 @@ pub fn in_turn() -> Vec<Draft> {
     };
     for entry in 0..2 {
         (0..=255).for_each(|set| add(&|d| d.sets[entry] = set));
+        (0..=255).for_each(|last| add(&|d| d.lasts[entry] = last));
+        (0..=255).for_each(|set| add(&|d| (d.sets[entry], d.lasts[entry]) = (set, 1)));
     }
     for place in 0..2 * NUMBERS {
         for end in ENDS {

@@ -95,7 +95,7 @@ impl<'a> Coverage<'a> {
         which(self.refused_entry(), self.recordings() as usize)
     }
 
-    fn refused_entry(&self) -> usize {
+    pub fn refused_entry(&self) -> usize {
         (self.place() - self.table()) / ENTRY
     }
 

@@ -2,7 +2,7 @@
 
 use super::draft::Draft;
 use super::shapes;
-use crate::footprint::stored::TRIANGLE;
+use crate::footprint::stored::{HELD_BACK, SECOND_EDITION, TEST, TRAINING, TRIANGLE};
 use crate::random::Random;
 
 pub type Damage = fn(&mut Draft, &mut Random);
@@ -11,7 +11,7 @@ pub type Damage = fn(&mut Draft, &mut Random);
 pub const DAMAGES: [(u32, &[Damage]); 7] = [
     (12, &[stored_length]),
     (13, &[recordings, table_place, sum_past_32_bits]),
-    (14, &[no_triangles, set, last_byte, first]),
+    (14, &[no_triangles, set, last_byte, edition_of_no_test, first]),
     (16, &[id]),
     (15, &[left_over, beyond, beyond]),
     (17, &[coordinate]),
@@ -97,7 +97,18 @@ pub fn set(draft: &mut Draft, random: &mut Random) {
 
 pub fn last_byte(draft: &mut Draft, random: &mut Random) {
     if let Some(k) = draft.some_entry(random) {
-        draft.table[k].last = random.pick(&[1, 1, 2, 4, 16, 64, 128, 255]);
+        draft.table[k].last = random.pick(&[2, 2, 3, 4, 16, 64, 127, 128, 129, 255]);
+    }
+}
+
+/// A last byte that tests alone may have, of what is training, held back or of no set.
+pub fn edition_of_no_test(draft: &mut Draft, random: &mut Random) {
+    if let Some(k) = draft.some_entry(random) {
+        let line = &mut draft.table[k];
+        line.last = SECOND_EDITION;
+        if line.set == TEST {
+            line.set = random.pick(&[TRAINING, TRAINING, HELD_BACK, HELD_BACK, 3]);
+        }
     }
 }
 

@@ -1,5 +1,7 @@
 //! What a wrong program could do unseen unless a file, or a recording asked of it, brings it about.
 
+pub mod editions;
+
 use super::coverage::{Coverage, Of};
 use super::shapes::{equal_vertices, larger_product, only_out_of_range};
 use crate::footprint::{Reason, MOST_BYTES};
@@ -85,7 +87,7 @@ pub const AT_TRIANGLE: [Event; 15] = [
 /// Of a file and the number of a recording asked of it.
 pub type Asked = (&'static str, fn(&Coverage, usize) -> bool);
 
-pub const ASKED: [Asked; 14] = [
+pub const ASKED: [Asked; 16] = [
     ("10, any", |c, k| c.accepted() && k >= c.recordings() as usize),
     ("10, the count itself", |c, k| c.accepted() && k == c.recordings() as usize),
     ("10, one more", |c, k| c.accepted() && k == 1 + c.recordings() as usize),
@@ -100,6 +102,8 @@ pub const ASKED: [Asked; 14] = [
     ("set 0", |c, k| is_of_set(c, k, 0)),
     ("set 1", |c, k| is_of_set(c, k, 1)),
     ("set 2", |c, k| is_of_set(c, k, 2)),
+    ("set 1, last byte 0", |c, k| is_of_set(c, k, 1) && c.lines()[k].last == 0),
+    ("set 1, last byte 1", |c, k| is_of_set(c, k, 1) && c.lines()[k].last == 1),
 ];
 
 fn good_to_32_bits(c: &Coverage, k: usize) -> bool {

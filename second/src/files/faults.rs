@@ -49,7 +49,8 @@ fn look_at_entries(table: &[u8], table_place: usize, look: Look) -> u64 {
         let (line, place) = (Line::read(bytes), table_place + ENTRY * k);
         look(line.count == 0, Reason::NoTriangles, place);
         look(line.set > 2, Reason::Set, place);
-        look(line.last > 0, Reason::LastByte, place);
+        look(line.last > 1, Reason::LastByte, place);
+        look(line.last == 1 && line.set != 1, Reason::EditionOfNoTest, place);
         look(u64::from(line.first) != end, Reason::First, place);
         look(ids.contains(&id_of(bytes)), Reason::Id, place);
         ids.push(id_of(bytes));

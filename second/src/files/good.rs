@@ -1,9 +1,10 @@
 //! Good files, from twelve bytes to the largest that fits.
 
 use super::draft::Draft;
+use super::editions::some_second;
 pub use super::shapes::anywhere;
 use super::shapes::{self, Shape};
-use crate::footprint::stored::{ENTRY, TRAILER, TRIANGLE};
+use crate::footprint::stored::{ENTRY, TEST, TRAILER, TRIANGLE};
 use crate::footprint::{MOST_BYTES, MOST_RECORDINGS};
 use crate::random::Random;
 
@@ -16,24 +17,35 @@ pub fn none() -> Draft {
 /// One recording, of one triangle or some more.
 pub fn one(random: &mut Random) -> Draft {
     let most = random.pick(&[1, 1, 2, 5, 40]);
-    made(random, 1, most, shapes::any)
+    some_second(made(random, 1, most, shapes::any), random)
 }
 
 pub fn few(random: &mut Random) -> Draft {
     let recordings = 2 + random.below(5);
     let most = 1 + random.below(4);
-    made(random, recordings, most, shapes::any)
+    some_second(made(random, recordings, most, shapes::any), random)
 }
 
 pub fn several(random: &mut Random) -> Draft {
     let recordings = 2 + random.below(MOST - 2);
     let most = random.pick(&[1, 2, 8]);
-    made(random, recordings, most, shapes::any)
+    some_second(made(random, recordings, most, shapes::any), random)
 }
 
 pub fn full_table(random: &mut Random) -> Draft {
     let most = random.pick(&[1, 2, 4]);
-    made(random, MOST, most, shapes::any)
+    some_second(made(random, MOST, most, shapes::any), random)
+}
+
+/// Few recordings or 64, of which all are tests or some, and of these all go by the second edition or some.
+pub fn of_the_second_edition(random: &mut Random) -> Draft {
+    let mut draft = if random.once_in(4) { full_table(random) } else { few(random) };
+    let (all_tests, all) = (random.once_in(3), random.once_in(2));
+    for line in &mut draft.table {
+        line.set = if all_tests { TEST } else { line.set };
+        line.last = u8::from(line.set == TEST && (all || random.once_in(2)));
+    }
+    draft
 }
 
 /// As many triangles as fit beside the table, or one or two fewer.
@@ -43,7 +55,8 @@ pub fn largest(random: &mut Random) -> Draft {
     let fewer = random.pick(&[0, 0, 0, 1, 2]);
     // The same few shapes again and again: thousands of new ones would take their time.
     let some: Vec<_> = (0..40).map(|_| shapes::any(random)).collect();
-    filled(random, recordings, most_triangles(recordings) - fewer, |r| r.pick(&some))
+    let draft = filled(random, recordings, most_triangles(recordings) - fewer, |r| r.pick(&some));
+    some_second(draft, random)
 }
 
 pub fn most_triangles(recordings: usize) -> usize {
@@ -63,7 +76,7 @@ pub fn near_ids(random: &mut Random) -> Draft {
 pub fn of_shape(random: &mut Random, shape: Shape) -> Draft {
     let recordings = 1 + random.below(4);
     let most = 1 + random.below(6);
-    made(random, recordings, most, shape)
+    some_second(made(random, recordings, most, shape), random)
 }
 
 /// What a fault is planted in: mostly short, so that faults come close to one another.
@@ -91,7 +104,7 @@ pub fn too_many(random: &mut Random) -> Draft {
     made(random, recordings, 1, shapes::any)
 }
 
-/// Each recording has from one triangle to `most`.
+/// Each recording has from one triangle to `most`; tests go by the first edition.
 pub fn made(random: &mut Random, recordings: usize, most: usize, shape: Shape) -> Draft {
     let counts: Vec<u16> = (0..recordings).map(|_| 1 + random.below(most) as u16).collect();
     let total: usize = counts.iter().map(|count| usize::from(*count)).sum();
@@ -99,7 +112,7 @@ pub fn made(random: &mut Random, recordings: usize, most: usize, shape: Shape) -
     Draft::of(&ids(random, recordings), &counts, &sets(random, recordings), triangles)
 }
 
-/// So many triangles in all, shared out unevenly.
+/// So many triangles in all, shared out unevenly; tests go by the first edition.
 pub fn filled(
     random: &mut Random,
     recordings: usize,

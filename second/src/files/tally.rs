@@ -3,6 +3,7 @@
 use std::cmp::Ordering;
 
 use super::coverage::{Coverage, Of};
+use super::events::editions::{ACCEPTED_EDITIONS, AT_LAST_BYTE};
 use super::events::{Event, ACCEPTED, ASKED, AT_TABLE, AT_TRAILER, AT_TRIANGLE};
 use super::shapes::only_out_of_range;
 use super::CLASSES;
@@ -28,11 +29,12 @@ impl Default for Tally {
         for number in 11..=18 {
             tally.add_test("number", number.to_string(), move |c| c.number() == number);
         }
-        for (name, test) in ACCEPTED {
+        for (name, test) in ACCEPTED.into_iter().chain(ACCEPTED_EDITIONS) {
             tally.add_test("accepted", name.to_string(), move |c| c.accepted() && test(c));
         }
         tally.add_events(&AT_TRAILER);
         tally.add_entries();
+        tally.add_events(&AT_LAST_BYTE);
         tally.add_events(&AT_TABLE);
         tally.add_events(&AT_TRIANGLE);
         for index in 0..6 {
@@ -74,7 +76,8 @@ impl Tally {
         let reasons = [
             (Reason::NoTriangles, "no triangles"),
             (Reason::Set, "set"),
-            (Reason::LastByte, "last byte"),
+            (Reason::LastByte, "last byte over 1"),
+            (Reason::EditionOfNoTest, "last byte 1 of no test"),
             (Reason::First, "first triangle"),
         ];
         let entries = [(Of::First, "first"), (Of::Middle, "middle"), (Of::Last, "last")];

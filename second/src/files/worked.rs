@@ -55,6 +55,12 @@ fn good() -> Vec<Worked> {
         spoiled(0, 0, &numbered(64), &[]),
         // A cross of 2^32, which is none of zero.
         spoiled(0, 0, &EXAMPLE, &[(8, &[0, 0, 1]), (20, &[0, 0, 1])]),
+        // Tests of the second edition: one of two, of three and of five recordings, and two of two
+        spoiled(0, 0, &EXAMPLE, &[(71, &[1])]),
+        spoiled(0, 0, &THREE, &[(131, &[1])]),
+        spoiled(0, 0, &numbered(5), &[(179, &[1])]),
+        spoiled(0, 0, &EXAMPLE, &[(58, &[1, 1]), (71, &[1])]),
+        spoiled(0, 0, &EXAMPLE, &[(58, &[1, 1])]),
     ]
 }
 
@@ -117,6 +123,19 @@ fn at_an_entry() -> Vec<Worked> {
         spoiled(14, 60, &EXAMPLE, &[(70, &[255])]),
         spoiled(14, 48, &EXAMPLE, &[(59, &[1])]),
         spoiled(14, 60, &EXAMPLE, &[(71, &[128])]),
+        // 1 of what is training, held back, of no set; and more than 1 of a test
+        spoiled(14, 48, &EXAMPLE, &[(59, &[1]), (71, &[1])]),
+        spoiled(14, 60, &EXAMPLE, &[(70, &[0, 1])]),
+        spoiled(14, 60, &EXAMPLE, &[(70, &[2, 1])]),
+        spoiled(14, 60, &EXAMPLE, &[(70, &[3, 1])]),
+        spoiled(14, 96, &THREE, &[(107, &[1])]),
+        spoiled(14, 108, &THREE, &[(119, &[1])]),
+        spoiled(14, 60, &EXAMPLE, &[(71, &[2])]),
+        spoiled(14, 60, &EXAMPLE, &[(71, &[3])]),
+        spoiled(14, 60, &EXAMPLE, &[(71, &[129])]),
+        spoiled(14, 60, &EXAMPLE, &[(71, &[255])]),
+        spoiled(14, 48, &EXAMPLE, &[(59, &[2])]),
+        spoiled(14, 168, &numbered(5), &[(178, &[0, 1])]),
         spoiled(14, 48, &EXAMPLE, &[(52, &[24])]),
         spoiled(14, 48, &EXAMPLE, &[(52, &[232, 255, 255, 255])]),
         spoiled(14, 60, &EXAMPLE, &[(64, &[0])]),
@@ -130,6 +149,10 @@ fn at_an_entry() -> Vec<Worked> {
         spoiled(14, 60, &EXAMPLE, &[(60, &[7]), (70, &[3])]),
         spoiled(14, 108, &THREE, &[(119, &[1]), (120, &[0])]),
         spoiled(16, 108, &THREE, &[(108, &[0, 0, 0, 0]), (130, &[9])]),
+        spoiled(14, 60, &EXAMPLE, &[(60, &[7]), (71, &[2])]),
+        spoiled(16, 60, &EXAMPLE, &[(60, &[7]), (71, &[1])]),
+        spoiled(16, 108, &THREE, &[(108, &[0, 0, 0, 0]), (131, &[2])]),
+        spoiled(14, 96, &THREE, &[(107, &[1]), (108, &[0, 0, 0, 0])]),
     ]
 }
 
@@ -148,6 +171,7 @@ fn at_the_end() -> Vec<Worked> {
         // 65,535 triangles end at 1,572,840, and from there 65,535 more
         spoiled(15, 48, &EXAMPLE, &[(56, &[255, 255]), (64, &[232, 255, 23]), (68, &[255, 255])]),
         spoiled(16, 60, &EXAMPLE, &[(60, &[7]), (68, &[2])]),
+        spoiled(15, 48, &EXAMPLE, &[(68, &[2]), (71, &[1])]),
         spoiled(15, 48, &EXAMPLE, &[(68, &[2]), (3, &[127])]),
     ]
 }
@@ -164,6 +188,7 @@ fn at_a_triangle() -> Vec<Worked> {
         spoiled(17, 48, &THREE, &[(48, &[0, 0, 0, 128])]),
         spoiled(18, 0, &EXAMPLE, &[(20, &[0])]),
         spoiled(18, 24, &EXAMPLE, &[(44, &[1, 0, 0, 0])]),
+        spoiled(18, 24, &EXAMPLE, &[(44, &[1, 0, 0, 0]), (71, &[1])]),
         // (0,0), (4,0), (8,0), and then with 1,000,001 in the place of 8
         spoiled(18, 0, &EXAMPLE, &[(16, &[8]), (20, &[0])]),
         spoiled(17, 0, &EXAMPLE, &[(16, OVER), (20, &[0])]),

@@ -13,6 +13,11 @@ pub const TRAINING: u8 = 0;
 pub const TEST: u8 = 1;
 pub const HELD_BACK: u8 = 2;
 
+/// What an entry can have for a last byte: the edition of the leak rule that a test goes by. What is no test
+/// goes by none, and has the first.
+pub const FIRST_EDITION: u8 = 0;
+pub const SECOND_EDITION: u8 = 1;
+
 /// An entry of the table.
 #[derive(Clone, Copy, Debug)]
 pub struct Line {
@@ -49,7 +54,8 @@ impl Line {
         let tests = [
             (self.count == 0, Reason::NoTriangles),
             (self.set > HELD_BACK, Reason::Set),
-            (self.last != 0, Reason::LastByte),
+            (self.last > SECOND_EDITION, Reason::LastByte),
+            (self.last == SECOND_EDITION && self.set != TEST, Reason::EditionOfNoTest),
             (u64::from(self.first) != end, Reason::First),
         ];
         tests.into_iter().filter(|test| test.0).map(|test| test.1)

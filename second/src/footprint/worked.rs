@@ -1,7 +1,7 @@
 //! The files that are worked by hand.
 
 use super::{coordinate, judge, part, recording, Entry, Verdict};
-use crate::files::worked::{all, EXAMPLE, SHORTEST, THREE};
+use crate::files::worked::{all, changed, EXAMPLE, SHORTEST, THREE};
 
 #[test]
 fn verdicts() {
@@ -40,6 +40,19 @@ fn recordings_of_three() {
     assert_eq!(coordinate(part(&THREE, 1), 2), -1_000_000.0);
     assert_eq!(coordinate(part(&THREE, 1), 11), 65_536.0);
     assert_eq!(recording(&THREE, 2).set, 1);
+}
+
+/// What is asked of a test of the second edition, and every last byte beside every set.
+#[test]
+fn editions() {
+    let nine = Entry { number: 0, place: 0, id: 9, first: 24, count: 1, set: 1, last: 1 };
+    assert_eq!(recording(&changed(&EXAMPLE, 71, 1), 1), nine);
+    for (set, last) in (0..=255).flat_map(|last| [0, 1, 2, 3].map(|set| (set, last))) {
+        let file = changed(&changed(&EXAMPLE, 70, set), 71, last);
+        let good = last == 0 && set < 3 || last == 1 && set == 1;
+        let expected = if good { Verdict::default() } else { Verdict { number: 14, place: 60 } };
+        assert_eq!(judge(&file), expected, "set {set}, last byte {last}");
+    }
 }
 
 #[test]

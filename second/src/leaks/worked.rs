@@ -1,9 +1,10 @@
 //! The files and lists that are worked by hand.
 
-use super::{leaks, Counts, List};
+use super::{leaks, own_area, Counts, List, Rule};
 use crate::boxes::near_pairs;
 use crate::decision::by_the_triangle_rules;
 use crate::files::draft::Triangle;
+use crate::files::editions::with_editions;
 use crate::files::worked::{all as all_files, EXAMPLE, SHORTEST};
 use crate::footprint::stored::{HELD_BACK, TEST, TRAINING};
 use crate::lists::worked::{all, file_of, EXAMPLE_LIST, NOTHING, U_OF_D, V};
@@ -122,15 +123,30 @@ fn a_refused_file_answers_for_itself() {
 fn a_refused_pair_overlaps() {
     let touching = [0.0, 0.0, 4.0, 0.0, 0.0, -4.0, 0.0, 0.0, 4.0, 0.0, 0.0, 4.0];
     let counts = Counts::default().with(by_the_triangle_rules(&touching));
-    assert_eq!(counts, Counts { tested: 1, overlapping: 0, touching: 1 });
-    assert!(counts.only_touch() && !counts.leak());
+    assert_eq!(counts, Counts { tested: 1, touching: 1, ..Counts::default() });
+    assert!(counts.only_touch() && !counts.leak(Rule::Any));
     // Refusals 2, 3, 4 and 5.
     for (place, value) in [(7, f64::NAN), (11, 0.0), (8, 1e308), (5, 0.0)] {
         let mut values = touching;
         values[place] = value;
         let both = counts.with(by_the_triangle_rules(&values));
-        assert_eq!(both, Counts { tested: 2, overlapping: 1, touching: 1 });
-        assert!(both.leak() && !both.only_touch());
+        assert_eq!(both, Counts { tested: 2, overlapping: 1, touching: 1, refused: 1, area: 0.0 });
+        assert!(both.leak(Rule::Any) && !both.only_touch());
+    }
+}
+
+/// By the second edition it is a leak whatever the own area is, and whatever the others come to.
+#[test]
+fn a_refused_pair_is_a_leak() {
+    let flat = [0.0, 0.0, 4.0, 0.0, 8.0, 0.0, 0.0, 0.0, 4.0, 0.0, 0.0, 4.0];
+    let of_d = [1.0, 1.0, -3.0, 1.0, 1.0, -3.0, 0.0, 0.0, 4.0, 0.0, 0.0, 4.0];
+    let counts = Counts::default().with(by_the_triangle_rules(&of_d));
+    assert_eq!(counts, Counts { tested: 1, overlapping: 1, area: 1.0, ..Counts::default() });
+    let both = counts.with(by_the_triangle_rules(&flat));
+    assert_eq!(both, Counts { tested: 2, overlapping: 2, refused: 1, ..counts });
+    for (own_area, leak) in [(99.0, true), (100.0, false), (1e300, false), (f64::INFINITY, false)] {
+        assert_eq!(counts.leak(Rule::MoreThanASliver(own_area)), leak);
+        assert!(both.leak(Rule::MoreThanASliver(own_area)));
     }
 }
 
@@ -138,8 +154,38 @@ fn a_refused_pair_overlaps() {
 #[test]
 fn a_far_pair_is_apart() {
     let flat_and_far = [0.0, 0.0, 4.0, 4.0, 8.0, 8.0, 9.0, 9.0, 10.0, 10.0, 11.0, 11.0];
-    let counts = Counts { tested: 3, overlapping: 2, touching: 1 };
+    let counts = Counts { tested: 3, overlapping: 2, touching: 1, refused: 0, area: 5.0 };
     assert_eq!(counts.with(by_the_triangle_rules(&flat_and_far)), counts);
+}
+
+/// The first 2,252 crosses come to more than 2^53, and to a multiple of four. The others leave 1 when they are
+/// divided by four: each of them loses that one when it is added, so that of 100 of them 100 is lost.
+#[test]
+fn an_own_area_that_is_rounded() {
+    const END: i32 = 1_000_000;
+    // A cross of 4 · 10^12 − `short`.
+    let large = |short: i32| [-END, -END, END, 1 - END, short - END, END];
+    // Within all of these, with a cross of 4 · 10^10 − 1: 2,352 times its area, times 100, is 4,703,999,999,882,400.
+    let within = [1_000 - END, 1_000 - END, 201_000 - END, 1_001 - END, 1_001 - END, 201_000 - END];
+    // In all the crosses are short of 2,352 times the largest by 2,251 · 104 + `first` + 300. With a first of 756
+    // half of them is 4,703,999,999,882,420, above the limit; and 50 less with what is lost, below it.
+    for (first, own, leak) in [
+        (756, 4_703_999_999_882_370.0, true),
+        (696, 4_703_999_999_882_400.0, false),
+        (700, 4_703_999_999_882_398.0, true),
+    ] {
+        let mut test = vec![large(104); 2_252];
+        test[0] = large(first);
+        test.extend([large(3); 100]);
+        let file = file_of(&[(9, TEST, &test), (7, TRAINING, &[within])]);
+        assert_eq!(own_area(&file[..2_352 * 24]), own);
+        let [none, one] = [
+            "leaks 0\ntouching 0\nformerly held back 0\n",
+            "leaks 1\ntest 9 train 7 pairs 2352\ntouching 0\nformerly held back 0\n",
+        ];
+        expect_list(&file, one, 2_352, 100);
+        expect_list(&with_editions(&file, |_| 1), if leak { one } else { none }, 2_352, 100);
+    }
 }
 
 /// Counted once more, in whole numbers.

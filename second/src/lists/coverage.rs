@@ -2,14 +2,15 @@
 //! what it has covered.
 
 pub mod boxes;
+pub mod editions;
 pub mod held_back;
 
 use super::{of_set, trainings};
 use crate::decision::{decide, decision_of, is_far, APART, OVERLAPPING, TOUCHING};
 use crate::exact::{common_to, contact_of, Common, Contact};
-use crate::footprint::stored::{triangle, Line, TEST, TRIANGLE};
+use crate::footprint::stored::{triangle, Line, SECOND_EDITION, TEST, TRIANGLE};
 use crate::footprint::{lines_of, Refused};
-use crate::leaks::{counts_of, Leak, Whole};
+use crate::leaks::{counts_of, Leak, Rule, Whole};
 use crate::triangles::{intersect, ROOM};
 use boxes::{twos_of, Two};
 use held_back::HeldBack;
@@ -36,7 +37,7 @@ pub struct Pairs {
     pub touching_first: bool,
     /// Two recordings that only touch, in more than one triangle pair.
     pub touching_often: bool,
-    /// Two recordings that overlap by rounding only.
+    /// Two recordings that leak, and overlap by rounding only.
     pub overlapping_by_rounding: bool,
     /// Another N or another K with U and V exchanged.
     pub another_n: bool,
@@ -99,6 +100,11 @@ impl<'a> Coverage<'a> {
         self.whole.as_ref().map_or(0, |whole| whole.formerly_held_back)
     }
 
+    /// Whether a test of a good file is.
+    pub fn of_the_second_edition(&self) -> bool {
+        self.lines.iter().any(|line| line.last == SECOND_EDITION)
+    }
+
     pub fn triangle_pairs(&self) -> usize {
         self.twos.iter().map(Two::pairs).sum()
     }
@@ -137,13 +143,13 @@ impl Pairs {
     fn look_at(&mut self, file: &[u8], lines: &[Line]) {
         for test in of_set(lines, TEST) {
             for training in trainings(lines) {
-                self.look_at_recordings(test.part(file), training.part(file));
+                self.look_at_recordings(test.part(file), training.part(file), Rule::of(test, file));
             }
         }
         self.held_back = HeldBack::among(file, lines);
     }
 
-    fn look_at_recordings(&mut self, test: &[u8], training: &[u8]) {
+    fn look_at_recordings(&mut self, test: &[u8], training: &[u8], rule: Rule) {
         let mut rings = Vec::new();
         let mut by_rounding = 0;
         let mut overlapped = false;
@@ -159,14 +165,14 @@ impl Pairs {
             }
         }
         let counts = counts_of(test, training);
-        self.overlapping_alone |= counts.leak() && counts.touching == 0;
+        self.overlapping_alone |= counts.overlap() && counts.touching == 0;
         self.touching_alone |= counts.only_touch();
-        if counts.leak() && counts.touching > 0 {
+        if counts.overlap() && counts.touching > 0 {
             self.overlapping_first |= rings[0].1 == OVERLAPPING;
             self.touching_first |= rings[0].1 == TOUCHING;
         }
         self.touching_often |= counts.only_touch() && counts.touching > 1;
-        self.overlapping_by_rounding |= counts.leak() && counts.overlapping == by_rounding;
+        self.overlapping_by_rounding |= counts.leak(rule) && counts.overlapping == by_rounding;
         let exchanged = counts_of(training, test);
         self.another_n |= exchanged.overlapping != counts.overlapping;
         self.another_k |= exchanged.only_touch() != counts.only_touch();

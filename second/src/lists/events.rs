@@ -1,6 +1,7 @@
 //! What a wrong program could do unseen unless a list, or a room lent for it, brings it about.
 
 pub mod boxes;
+pub mod editions;
 pub mod held_back;
 
 use super::coverage::Coverage;

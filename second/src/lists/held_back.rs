@@ -60,7 +60,8 @@ pub fn roles(random: &mut Random) -> Vec<u8> {
         }
     }
     // One recording beside both tests: it overlaps the one and touches the other.
-    if recordings[1].0 == TEST && random.once_in(2) {
+    let two_tests = recordings.get(1).map_or(false, |second| second.0 == TEST);
+    if two_tests && random.once_in(2) {
         recordings.push((HELD_BACK, vec![BESIDE[0], [100, 0, 106, 0, 103, -4]]));
     }
     random.shuffle(&mut recordings);

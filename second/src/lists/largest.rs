@@ -4,8 +4,9 @@ use super::recordings::Part;
 use super::scenes::around;
 use super::worked::NOTHING;
 use crate::files::draft::{Draft, Triangle};
+use crate::files::editions::with_editions;
 use crate::files::good::most_triangles;
-use crate::footprint::stored::{HELD_BACK, TEST, TRAINING};
+use crate::footprint::stored::{FIRST_EDITION, HELD_BACK, SECOND_EDITION, TEST, TRAINING};
 
 pub struct Large {
     pub name: &'static str,
@@ -27,6 +28,17 @@ pub fn all() -> Vec<Large> {
         all_lines("32 x 32 recordings that all overlap", |_| TRAINING),
         all_lines("32 x 32 recordings that all overlap, by turns held back", BY_TURNS),
         all_lines("32 x 32 recordings that all overlap, all but tests held back", |_| HELD_BACK),
+        of_the_second("32 x 32 recordings that all overlap, of the second edition", |_| TRAINING),
+        of_the_second(
+            "32 x 32 recordings that all overlap, of the second edition, by turns held back",
+            BY_TURNS,
+        ),
+        slivers(
+            "32 x 32 recordings that overlap by a sliver, by turns of both editions",
+            BY_TURNS,
+            BY_EDITIONS,
+        ),
+        slivers("32 x 32 recordings that overlap by a sliver", |_| TRAINING, |_| SECOND_EDITION),
         all_touching("32 x 32 recordings that all touch", |_| TRAINING),
         all_touching("32 x 32 recordings that all touch, by turns held back", BY_TURNS),
         lines_and_touching("32 x 32 recordings of which some overlap and the others touch", |_| TRAINING),
@@ -116,6 +128,11 @@ type Sets = fn(usize) -> u8;
 /// Two of each.
 const BY_TURNS: Sets = |k| if k % 4 < 2 { TRAINING } else { HELD_BACK };
 
+/// The edition of each test recording, by its number among them.
+type Editions = fn(usize) -> u8;
+
+const BY_EDITIONS: Editions = |k| [FIRST_EDITION, SECOND_EDITION][k % 2];
+
 /// 32 test and 32 training recordings by turns, and the latter of these sets.
 fn by_turns(tests: impl Fn(usize) -> Part, trainings: impl Fn(usize) -> Part, sets: Sets) -> Vec<u8> {
     let sets: Vec<u8> = (0..32).flat_map(|k| [TEST, sets(k)]).collect();
@@ -151,6 +168,33 @@ fn all_lines(name: &'static str, sets: Sets) -> Large {
         name,
         file: by_turns(|k| inner(of_test(k)), |k| outer(of_training(k)), sets),
         list: list_of(|test, training| of_test(test) * of_training(training), 0, sets),
+        tested: triangle_pairs(of_test, of_training),
+        slow: false,
+    }
+}
+
+/// The same lines by the second edition: all of a test overlaps.
+fn of_the_second(name: &'static str, sets: Sets) -> Large {
+    let large = all_lines(name, sets);
+    Large { file: with_editions(&large.file, |_| SECOND_EDITION), ..large }
+}
+
+/// The same again, but every test has one more triangle, far away and so large that no overlap comes to a
+/// hundredth of it: there are lines for the tests of the first edition.
+fn slivers(name: &'static str, sets: Sets, editions: Editions) -> Large {
+    const FAR: Triangle = [500_000, 500_000, 600_000, 500_000, 500_000, 600_000];
+    let (of_test, of_training) = (|k: usize| 10 + k % 3, |k: usize| 10 + k % 2);
+    let with_far = |k: usize| [inner(of_test(k)), vec![FAR]].concat();
+    let file = by_turns(with_far, |k| outer(of_training(k)), sets);
+    let mut in_turn = (0..32).map(editions);
+    let pairs = |test: usize, training: usize| match editions(test) {
+        FIRST_EDITION => of_test(test) * of_training(training),
+        _ => 0,
+    };
+    Large {
+        name,
+        file: with_editions(&file, |_| in_turn.next().unwrap_or(FIRST_EDITION)),
+        list: list_of(pairs, 0, sets),
         tested: triangle_pairs(of_test, of_training),
         slow: false,
     }

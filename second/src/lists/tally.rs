@@ -1,7 +1,9 @@
 //! Counts of what a comparison of lists went through, and what it must have gone through.
 
+use super::coverage::editions::{Weighed, OTHER_WAYS};
 use super::coverage::Coverage;
 use super::events::boxes::{alone_at, of_so_many, COUNTS, OWN_BOXES, PLACES, SIDES, TESTED, TRIANGLE_BOXES};
+use super::events::editions::{EDITIONS, WEIGHED};
 use super::events::held_back::HELD_BACK_ONES;
 use super::events::{has_id, Event, LISTS, RECORDINGS, ROOMS, TRIANGLES};
 use super::rooms::Room;
@@ -33,6 +35,8 @@ impl Default for Tally {
             tally.add_test("recordings", name, move |c| has_id(c, least, most as u32));
         }
         tally.add_events("held back ones", &HELD_BACK_ONES);
+        tally.add_events("editions", &EDITIONS);
+        tally.add_weighed();
         tally.add_events("triangles", &TRIANGLES);
         tally.add_events("tested", &TESTED);
         tally.add_events("recordings' own boxes", &OWN_BOXES);
@@ -59,6 +63,22 @@ impl Tally {
     fn add_events(&mut self, table: &'static str, events: &'static [Event]) {
         for (name, test) in events {
             self.add_test(table, name.to_string(), move |c| c.accepted() && test(c));
+        }
+    }
+
+    /// Of overlaps with tests of the second edition: what they are, and what another way to weigh them would
+    /// make of them.
+    fn add_weighed(&mut self) {
+        for (name, test) in WEIGHED {
+            self.add_test("second edition", name.to_string(), move |c| {
+                c.any(|two| two.weighed.as_ref().map_or(false, test))
+            });
+        }
+        for (name, leak) in OTHER_WAYS {
+            let otherwise = move |w: &Weighed| leak(w) != w.leak();
+            self.add_test("second edition, otherwise with", name.to_string(), move |c| {
+                c.any(|two| two.weighed.as_ref().map_or(false, otherwise))
+            });
         }
     }
 

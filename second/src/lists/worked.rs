@@ -2,6 +2,7 @@
 //! given to the triangle rules.
 
 mod boxes;
+mod editions;
 mod held_back;
 
 use crate::files::draft::{Draft, Triangle};
@@ -82,7 +83,7 @@ fn listed(list: &str, tested: u32, recordings: &[(u32, u8, &[Triangle])]) -> Wor
 /// None of them longer than 2,000 bytes, nor any of the lists longer than 1,000.
 pub fn all() -> Vec<Worked> {
     let all = [nothing(), in_order(), touching(), both_kinds(), decisions(), numbers()];
-    all.into_iter().flatten().chain(held_back::all()).chain(boxes::all()).collect()
+    all.into_iter().flatten().chain(held_back::all()).chain(editions::all()).chain(boxes::all()).collect()
 }
 
 fn nothing() -> Vec<Worked> {

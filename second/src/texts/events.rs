@@ -9,7 +9,7 @@ use crate::wkt::{MOST_TEXT, NO_SUCH_ID};
 pub type Event = (&'static str, fn(&Asked) -> bool);
 
 /// Of recordings that are there.
-pub const RECORDINGS: [Event; 24] = [
+pub const RECORDINGS: [Event; 25] = [
     ("the only one", |a| a.of.lines.len() == 1),
     ("the first of several", |a| a.place() == Some(Of::First)),
     ("between first and last", |a| a.place() == Some(Of::Middle)),
@@ -18,6 +18,7 @@ pub const RECORDINGS: [Event; 24] = [
     ("set 0", |a| a.set() == Some(0)),
     ("set 1", |a| a.set() == Some(1)),
     ("set 2", |a| a.set() == Some(2)),
+    ("last byte 1", |a| a.entry.map(|k| a.of.lines[k].last) == Some(1)),
     ("id 0", |a| a.id == 0),
     ("id 4,294,967,295", |a| a.id == u32::MAX),
     ("id of 2^31 or more", |a| a.id >= 1 << 31),

@@ -77,7 +77,14 @@ pub fn fault_at_a_triangle(random: &mut Random) -> Vec<u8> {
 
 pub fn fault_at_an_entry(random: &mut Random) -> Vec<u8> {
     let mut draft = several(random);
-    let damage = random.pick(&[d::no_triangles as d::Damage, d::set, d::last_byte, d::first, d::beyond]);
+    let damage = random.pick(&[
+        d::no_triangles as d::Damage,
+        d::set,
+        d::last_byte,
+        d::edition_of_no_test,
+        d::first,
+        d::beyond,
+    ]);
     damage(&mut draft, random);
     draft.bytes()
 }

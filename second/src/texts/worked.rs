@@ -2,7 +2,7 @@
 
 use super::numbers::{beside, BESIDE_TEXT, KNOWN};
 use crate::files::draft::Triangle;
-use crate::files::worked::{all as all_files, numbered, EXAMPLE, SHORTEST, THREE};
+use crate::files::worked::{all as all_files, changed, numbered, EXAMPLE, SHORTEST, THREE};
 use crate::footprint::stored::{HELD_BACK, TEST, TRAINING};
 use crate::lists::worked::file_of;
 use crate::wkt::{NO_SUCH_ID, ROOM_TOO_SHORT};
@@ -64,6 +64,7 @@ fn texts() -> Vec<Worked> {
         answered(&shown(), 7, SHOWN_TEXT),
         answered(&EXAMPLE, 7, SEVEN),
         answered(&EXAMPLE, 9, NINE),
+        answered(&changed(&EXAMPLE, 71, 1), 9, NINE),
         answered(&THREE, 0, ZERO),
         answered(&THREE, u32::MAX, MANY),
         answered(&THREE, 5, ENDS),

@@ -3,7 +3,7 @@
 use super::{write, Written};
 use crate::drafts::draft::Draft;
 use crate::drafts::worked::{all, example, file_of_three, recordings, three, V};
-use crate::files::worked::{EXAMPLE, SHORTEST, THREE};
+use crate::files::worked::{changed, EXAMPLE, SHORTEST, THREE};
 use crate::footprint::{judge, part, recording, Entry, Verdict};
 
 /// What the room has before the call: every byte told from the next, and no byte twice the same in two
@@ -62,8 +62,9 @@ fn reading_what_is_written() {
         assert_eq!(judge(file), Verdict::default());
         let mut first = 0;
         for k in 0..draft.ids.len() {
-            let (id, count, set) = (draft.ids[k], draft.counts[k], u32::from(draft.sets[k]));
-            let expected = Entry { number: 0, place: 0, id, first, count, set, last: 0 };
+            let (id, count) = (draft.ids[k], draft.counts[k]);
+            let [set, last] = [draft.sets[k], draft.lasts[k]].map(u32::from);
+            let expected = Entry { number: 0, place: 0, id, first, count, set, last };
             assert_eq!(recording(file, k), expected);
             let numbers = &draft.numbers[first as usize / 4..][..6 * count as usize];
             let bytes: Vec<u8> = numbers.iter().flat_map(|number| number.to_le_bytes()).collect();
@@ -80,6 +81,7 @@ fn filled(counts: &[u32]) -> Draft {
         ids: (0..counts.len() as u32).collect(),
         counts: counts.to_vec(),
         sets: vec![1; counts.len()],
+        lasts: vec![0; counts.len()],
         numbers: V.repeat(triangles as usize),
     }
 }
@@ -167,6 +169,13 @@ fn entries_beyond_the_64th() {
     expect(&spoiled(|d| (d.ids[100], d.sets[100]) = (0, 2)), 10_000, 14, &[]);
     expect(&spoiled(|d| (d.ids[100], d.sets[99]) = (0, 2)), 10_000, 14, &[]);
     expect(&spoiled(|d| (d.ids[100], d.sets[101]) = (0, 2)), 10_000, 16, &[]);
+    expect(&spoiled(|d| d.lasts[199] = 1), 10_000, 13, &[]);
+    expect(&spoiled(|d| d.lasts[198] = 1), 10_000, 14, &[]);
+    expect(&spoiled(|d| d.lasts[199] = 2), 10_000, 14, &[]);
+    expect(&spoiled(|d| (d.ids[100], d.lasts[100]) = (0, 1)), 10_000, 14, &[]);
+    expect(&spoiled(|d| (d.ids[101], d.lasts[101]) = (0, 1)), 10_000, 16, &[]);
+    expect(&spoiled(|d| (d.ids[101], d.lasts[100]) = (0, 1)), 10_000, 14, &[]);
+    expect(&spoiled(|d| (d.ids[101], d.lasts[102]) = (0, 1)), 10_000, 16, &[]);
     expect(&spoiled(|d| d.counts[64] = 0), 10_000, 14, &[]);
     expect(&spoiled(|d| (d.ids[100], d.counts[101]) = (0, 0)), 10_000, 16, &[]);
     expect(&spoiled(|d| (d.ids[101], d.counts[100]) = (0, 0)), 10_000, 14, &[]);
@@ -185,6 +194,22 @@ fn sets() {
             expect(&draft, 84, 14, &[]);
         } else {
             expect(&draft, 84, 0, &[&EXAMPLE[..70], &[set], &EXAMPLE[71..]].concat());
+        }
+    }
+}
+
+/// The test may have 0 and 1, the training recording has 0, and nothing else is taken.
+#[test]
+fn last_bytes() {
+    for last in 0..=255 {
+        for (entry, most) in [(0, 0), (1, 1)] {
+            let mut draft = example();
+            draft.lasts[entry] = last;
+            if last > most {
+                expect(&draft, 84, 14, &[]);
+            } else {
+                expect(&draft, 84, 0, &changed(&EXAMPLE, 59 + 12 * entry, last));
+            }
         }
     }
 }

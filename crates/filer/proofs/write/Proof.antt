@@ -11,8 +11,8 @@ refusal-requires c κs = search needs
 
 returns : tie.Need-returns
 returns c =
-    let g = c .before .before .before .before .before .before .args in
-    refused (now (g .ids)) (now (g .counts)) (now (g .sets)) (now (g .numbers)) (now (g .room)) (c .before .refusal .ensures) (c .if1 .taken)
+    let g = c .before .before .before .before .before .before .before .args in
+    refused (now (g .ids)) (now (g .counts)) (now (g .sets)) (now (g .lasts)) (now (g .numbers)) (now (g .room)) (c .before .refusal .ensures) (c .if1 .taken)
 
 put-file-requires : tie.Need-put-file-requires
 put-file-requires c κs = search needs
@@ -22,8 +22,8 @@ same-length c = search needs
 
 returns-2 : tie.Need-returns-2
 returns-2 c =
-    let g = c .before .before .before .before .before .before .before .before .before .before .args in
-    answered (now (g .ids)) (now (g .counts)) (now (g .sets)) (now (g .numbers)) (now (g .room)) (sym (c .before .before .before .before .before .refusal .ensures) ∙ c .before .before .before .before .if1 .left) (c .before .before .put-file .ensures)
+    let g = c .before .before .before .before .before .before .before .before .before .before .before .args in
+    answered (now (g .ids)) (now (g .counts)) (now (g .sets)) (now (g .lasts)) (now (g .numbers)) (now (g .room)) (sym (c .before .before .before .before .before .refusal .ensures) ∙ c .before .before .before .before .if1 .left) (c .before .before .put-file .ensures)
 
 pub write-spec : {M : Type 1} → statement M
 write-spec = tie.close (tie.spec refusal-requires returns put-file-requires same-length returns-2)

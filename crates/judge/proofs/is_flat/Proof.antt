@@ -4,24 +4,6 @@ use borrow.Author.Needs.{needs}
 use Rattle.judge.proofs.is_flat.Statement.{statement}
 use Rattle.judge.proofs.is_flat.Tie as tie
 
-cast-a : tie.Need-cast-a
-cast-a c = search needs
-
-cast-a-2 : tie.Need-cast-a-2
-cast-a-2 c = search needs
-
-sub-a : tie.Need-sub-a
-sub-a c = apart-fits _ _ (c .pre .2) (c .pre .0)
-
-cast-b : tie.Need-cast-b
-cast-b c = search needs
-
-cast-b-2 : tie.Need-cast-b-2
-cast-b-2 c = search needs
-
-sub-b : tie.Need-sub-b
-sub-b c = apart-fits _ _ (c .pre .3) (c .pre .1)
-
 cast-c : tie.Need-cast-c
 cast-c c = search needs
 
@@ -40,6 +22,24 @@ cast-d-2 c = search needs
 sub-d : tie.Need-sub-d
 sub-d c = apart-fits _ _ (c .pre .5) (c .pre .1)
 
+cast-a : tie.Need-cast-a
+cast-a c = search needs
+
+cast-a-2 : tie.Need-cast-a-2
+cast-a-2 c = search needs
+
+sub-a : tie.Need-sub-a
+sub-a c = apart-fits _ _ (c .pre .2) (c .pre .0)
+
+cast-b : tie.Need-cast-b
+cast-b c = search needs
+
+cast-b-2 : tie.Need-cast-b-2
+cast-b-2 c = search needs
+
+sub-b : tie.Need-sub-b
+sub-b c = apart-fits _ _ (c .pre .3) (c .pre .1)
+
 mul-result : tie.Need-mul-result
 mul-result c = product-fits _ _ _ _ (c .pre .2) (c .pre .0) (c .pre .5) (c .pre .1)
 
@@ -56,18 +56,18 @@ pub is-flat-spec : {M : Type 1} → statement M
 is-flat-spec =
     tie.close
     (tie.spec
-    cast-a
-    cast-a-2
-    sub-a
-    cast-b
-    cast-b-2
-    sub-b
     cast-c
     cast-c-2
     sub-c
     cast-d
     cast-d-2
     sub-d
+    cast-a
+    cast-a-2
+    sub-a
+    cast-b
+    cast-b-2
+    sub-b
     mul-result
     mul-result-2
     sub-result

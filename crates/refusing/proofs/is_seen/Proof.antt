@@ -1,21 +1,21 @@
--- The ids before id i are looked at from the latest to the first; those that are left decide the rest.
+-- The ids before id i are looked at from the first to the latest, each turn one more.
 use borrow.Author.Needs.{needs}
-use Prim.Native.Nat.{suc, _-_, _≤_}
+use Prim.Native.Nat.{_-_, _≤_}
 use denote.Ref.{now}
 use lib.ListN.{getD}
-use mathlib.Core.Path.{_≡_, refl, sym, ap, _∙_}
+use mathlib.Core.Path.{_≡_, ap, _∙_}
 use native.Mathlib.Omega.{arith}
 use Rattle.layout.specs.Rules.{isSeen}
 use Rattle.filing.specs.Refusals.{idsBefore}
-use Rattle.refusing.proofs.Turns.{seen-here, seen-further, seen-none}
+use Rattle.refusing.proofs.Turns.{seen-none, seen-turn}
 use Rattle.refusing.proofs.is_seen.Statement.{statement}
 use Rattle.refusing.proofs.is_seen.Tie as tie
 
 abbrev Inv-loop : tie.InvT-loop
-Inv-loop ids i id j₀ j = (j ≤ i) × (isSeen (getD ids i 0) (idsBefore ids i) ≡ isSeen (getD ids i 0) (idsBefore ids j))
+Inv-loop ids i id seen₀ j₀ seen j = (j ≤ i) × (seen ≡ isSeen (getD ids i 0) (idsBefore ids j))
 
 abbrev μ-loop : tie.MeasureT-loop
-μ-loop ids i id j₀ j = j
+μ-loop ids i id seen₀ j₀ seen j = i - j
 
 mul-id : tie.Need-mul-id Inv-loop μ-loop
 mul-id c = search needs
@@ -24,40 +24,32 @@ shared-slice-read-id : tie.Need-shared-slice-read-id Inv-loop μ-loop
 shared-slice-read-id c = search needs
 
 loop-holds : tie.Need-loop-holds Inv-loop μ-loop
-loop-holds c = (omega arith, refl)
+loop-holds c = let g = c .before .args in (omega arith, seen-none (now (g .ids)) (getD (now (g .ids)) (g .i) 0))
 
-sub-j : tie.Need-sub-j Inv-loop μ-loop
-sub-j c = search needs
+mul-seen : tie.Need-mul-seen Inv-loop μ-loop
+mul-seen c = search needs
 
-mul-if1 : tie.Need-mul-if1 Inv-loop μ-loop
-mul-if1 c = search needs
+shared-slice-read-seen : tie.Need-shared-slice-read-seen Inv-loop μ-loop
+shared-slice-read-seen c = search needs
 
-shared-slice-read-if1 : tie.Need-shared-slice-read-if1 Inv-loop μ-loop
-shared-slice-read-if1 c = search needs
-
-returns : tie.Need-returns Inv-loop μ-loop
-returns c =
-    let l = c .before .before .before .loop in
-    let g = c .before .before .before .before .before .args in
-    let q : l .j ≡ suc (l .j - 1) = omega (arith, c .before .before .loop-test .taken) in
-    seen-here (now (g .ids)) (getD (now (g .ids)) (g .i) 0) (l .j - 1) (c .if1 .taken) ∙ sym (l .inv .1 ∙ ap (λ n. isSeen (getD (now (g .ids)) (g .i) 0) (idsBefore (now (g .ids)) n)) q)
+add-j : tie.Need-add-j Inv-loop μ-loop
+add-j c = search needs
 
 loop-less : tie.Need-loop-less Inv-loop μ-loop
 loop-less c = search needs
 
 loop-again : tie.Need-loop-again Inv-loop μ-loop
 loop-again c =
-    let l = c .before .before .before .loop in
-    let g = c .before .before .before .before .before .args in
-    let q : l .j ≡ suc (l .j - 1) = omega (arith, c .before .before .loop-test .taken) in
-    (omega (arith, l .inv .0), l .inv .1 ∙ (ap (λ n. isSeen (getD (now (g .ids)) (g .i) 0) (idsBefore (now (g .ids)) n)) q ∙ seen-further (now (g .ids)) (getD (now (g .ids)) (g .i) 0) (l .j - 1) (c .if1 .left)))
+    let l = c .before .before .loop in
+    let g = c .before .before .before .before .args in
+    (omega (arith, c .before .loop-test .taken), seen-turn (now (g .ids)) (getD (now (g .ids)) (g .i) 0) (l .j) (l .inv .1))
 
-returns-2 : tie.Need-returns-2 Inv-loop μ-loop
-returns-2 c =
+returns : tie.Need-returns Inv-loop μ-loop
+returns c =
     let l = c .before .loop in
     let g = c .before .before .before .args in
-    let q : 0 ≡ l .j = omega (arith, c .loop-test .left) in
-    seen-none (now (g .ids)) (getD (now (g .ids)) (g .i) 0) ∙ (ap (λ n. isSeen (getD (now (g .ids)) (g .i) 0) (idsBefore (now (g .ids)) n)) q ∙ sym (l .inv .1))
+    let q : l .j ≡ g .i = omega (arith, l .inv .0, c .loop-test .left) in
+    l .inv .1 ∙ ap (λ n. isSeen (getD (now (g .ids)) (g .i) 0) (idsBefore (now (g .ids)) n)) q
 
 pub is-seen-spec : {M : Type 1} → statement M
 is-seen-spec =
@@ -68,10 +60,9 @@ is-seen-spec =
     mul-id
     shared-slice-read-id
     loop-holds
-    sub-j
-    mul-if1
-    shared-slice-read-if1
-    returns
+    mul-seen
+    shared-slice-read-seen
+    add-j
     loop-less
     loop-again
-    returns-2)
+    returns)

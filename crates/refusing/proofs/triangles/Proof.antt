@@ -13,13 +13,13 @@ use Rattle.refusing.proofs.triangles.Statement.{statement}
 use Rattle.refusing.proofs.triangles.Tie as tie
 
 abbrev Inv-loop : tie.InvT-loop
-Inv-loop numbers n k₀ k = (k ≤ length numbers / 6) × (firstFrom (triangleNumber (givenOf [] [] [] numbers)) (length numbers / 6) 0 ≡ firstFrom (triangleNumber (givenOf [] [] [] numbers)) (length numbers / 6 - k) k)
+Inv-loop numbers n k₀ k = (k ≤ length numbers / 6) × (firstFrom (triangleNumber (givenOf [] [] [] [] numbers)) (length numbers / 6) 0 ≡ firstFrom (triangleNumber (givenOf [] [] [] [] numbers)) (length numbers / 6 - k) k)
 
 abbrev μ-loop : tie.MeasureT-loop
 μ-loop numbers n k₀ k = length numbers / 6 - k
 
 loop-holds : tie.Need-loop-holds Inv-loop μ-loop
-loop-holds c = let numbers = now (c .args .numbers) in (omega arith, first-all (triangleNumber (givenOf [] [] [] numbers)) (length numbers / 6))
+loop-holds c = let numbers = now (c .args .numbers) in (omega arith, first-all (triangleNumber (givenOf [] [] [] [] numbers)) (length numbers / 6))
 
 mul-at : tie.Need-mul-at Inv-loop μ-loop
 mul-at c = search needs
@@ -46,7 +46,7 @@ returns : tie.Need-returns Inv-loop μ-loop
 returns c =
     let l = c .before .before .before .before .loop in
     let numbers = now (c .before .before .before .before .before .args .numbers) in
-    sym (l .inv .1 ∙ first-stop (triangleNumber (givenOf [] [] [] numbers)) (length numbers / 6) (l .k) (c .before .before .before .loop-test .taken) (cut-out numbers (l .k) (c .before .triangle-number .ensures)) (c .if1 .taken))
+    sym (l .inv .1 ∙ first-stop (triangleNumber (givenOf [] [] [] [] numbers)) (length numbers / 6) (l .k) (c .before .before .before .loop-test .taken) (cut-out numbers (l .k) (c .before .triangle-number .ensures)) (c .if1 .taken))
 
 add-k : tie.Need-add-k Inv-loop μ-loop
 add-k c = search needs
@@ -58,13 +58,13 @@ loop-again : tie.Need-loop-again Inv-loop μ-loop
 loop-again c =
     let l = c .before .before .before .before .loop in
     let numbers = now (c .before .before .before .before .before .args .numbers) in
-    (omega (arith, c .before .before .before .loop-test .taken), l .inv .1 ∙ first-go (triangleNumber (givenOf [] [] [] numbers)) (length numbers / 6) (l .k) (c .before .before .before .loop-test .taken) (cut-out numbers (l .k) (c .before .triangle-number .ensures)) (c .if1 .left))
+    (omega (arith, c .before .before .before .loop-test .taken), l .inv .1 ∙ first-go (triangleNumber (givenOf [] [] [] [] numbers)) (length numbers / 6) (l .k) (c .before .before .before .loop-test .taken) (cut-out numbers (l .k) (c .before .triangle-number .ensures)) (c .if1 .left))
 
 returns-2 : tie.Need-returns-2 Inv-loop μ-loop
 returns-2 c =
     let l = c .before .loop in
     let numbers = now (c .before .before .args .numbers) in
-    sym (l .inv .1 ∙ first-end (triangleNumber (givenOf [] [] [] numbers)) (length numbers / 6) (l .k) (c .loop-test .left))
+    sym (l .inv .1 ∙ first-end (triangleNumber (givenOf [] [] [] [] numbers)) (length numbers / 6) (l .k) (c .loop-test .left))
 
 pub triangles-spec : {M : Type 1} → statement M
 triangles-spec =

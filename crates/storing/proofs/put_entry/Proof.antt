@@ -1,4 +1,4 @@
--- An entry is its id, its first place, and four bytes: the two of its count, its set, and zero.
+-- An entry is its id, its first place, and four bytes: the two of its count, its set, and its last byte.
 use borrow.Author.Needs.{needs}
 use mathlib.Core.Path.{refl}
 use Rattle.text.proofs.Room.{put-as}

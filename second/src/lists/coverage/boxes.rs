@@ -1,11 +1,12 @@
 //! A test and a training recording by the boxes around their triangles, and by their own, which are around
 //! all of these.
 
+use super::editions::Weighed;
 use super::{of_set, trainings};
 use crate::boxes::{boxes_of, Upright};
 use crate::coverage::boxes::Boxes;
-use crate::footprint::stored::{Line, TEST};
-use crate::leaks::{counts_of, Counts};
+use crate::footprint::stored::{Line, SECOND_EDITION, TEST};
+use crate::leaks::{counts_of, own_area, Counts, Rule};
 
 pub struct Two {
     pub test: Outline,
@@ -15,6 +16,15 @@ pub struct Two {
     pub counts: Counts,
     /// What the training recording is stored with.
     pub set: u8,
+    /// Which test of the table it is, and the edition that it goes by.
+    pub of: usize,
+    pub edition: u8,
+    /// The test recording's.
+    pub own_area: f64,
+    /// Whether an overlap of so much is no leak by the second edition.
+    pub sliver: bool,
+    /// Of an overlap with a test of the second edition.
+    pub weighed: Option<Weighed>,
 }
 
 pub struct Outline {
@@ -24,8 +34,9 @@ pub struct Outline {
 
 /// All of them, in the list's order.
 pub fn twos_of<'a>(file: &'a [u8], lines: &'a [Line]) -> Vec<Two> {
-    let with = |test: &'a Line| trainings(lines).map(move |training| Two::of(file, test, training));
-    of_set(lines, TEST).flat_map(with).collect()
+    let with =
+        |(k, test): (usize, &'a Line)| trainings(lines).map(move |training| Two::of(file, k, test, training));
+    of_set(lines, TEST).enumerate().flat_map(with).collect()
 }
 
 impl Outline {
@@ -43,9 +54,14 @@ impl Outline {
 }
 
 impl Two {
-    fn of(file: &[u8], test: &Line, training: &Line) -> Two {
-        let (set, test, training) = (training.set, test.part(file), training.part(file));
+    fn of(file: &[u8], of: usize, test: &Line, training: &Line) -> Two {
+        let (set, edition) = (training.set, test.last);
+        let (test, training) = (test.part(file), training.part(file));
         let counts = counts_of(test, training);
+        let own_area = own_area(test);
+        let sliver = counts.overlap() && !counts.leak(Rule::MoreThanASliver(own_area));
+        let is_weighed = edition == SECOND_EDITION && counts.overlap();
+        let weighed = is_weighed.then(|| Weighed::of(test, training));
         let (test, training) = (Outline::of(test), Outline::of(training));
         let mut near = Vec::new();
         for (i, u) in test.triangles.iter().enumerate() {
@@ -53,7 +69,7 @@ impl Two {
                 (0..training.triangles.len()).filter(|j| u.meets(&training.triangles[*j])).map(|j| [i, j]),
             );
         }
-        Two { test, training, near, counts, set }
+        Two { test, training, near, counts, set, of, edition, own_area, sliver, weighed }
     }
 
     pub fn own(&self) -> Boxes {

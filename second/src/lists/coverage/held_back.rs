@@ -40,7 +40,7 @@ impl HeldBack {
         let with_tests: Vec<Counts> =
             of_set(lines, TEST).map(|test| counts_of(test.part(file), part)).collect();
         let has = |are: fn(Counts) -> bool| with_tests.iter().any(|counts| are(*counts));
-        let (overlaps, touches) = (has(Counts::leak), has(Counts::only_touch));
+        let (overlaps, touches) = (has(Counts::overlap), has(Counts::only_touch));
         self.overlaps |= overlaps;
         self.only_touches |= touches && !overlaps;
         self.overlaps_and_touches |= touches && overlaps;
@@ -50,14 +50,14 @@ impl HeldBack {
         self.far |= apart && !near;
         for training in of_set(lines, TRAINING) {
             let counts = counts_of(part, training.part(file));
-            self.overlaps_training_only |= apart && counts.leak();
+            self.overlaps_training_only |= apart && counts.overlap();
             self.touches_training_only |= apart && counts.only_touch();
-            self.leaks_as_test |= counts.leak();
+            self.leaks_as_test |= counts.overlap();
             self.touches_as_test |= counts.only_touch();
             self.tested_as_test |= counts.tested > 0;
         }
         for other in of_set(lines, HELD_BACK).filter(|other| other.id != line.id) {
-            let overlaps = counts_of(part, other.part(file)).leak();
+            let overlaps = counts_of(part, other.part(file)).overlap();
             self.overlaps_another |= overlaps;
             self.overlaps_another_only |= apart && overlaps;
         }

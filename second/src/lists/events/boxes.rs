@@ -26,7 +26,7 @@ pub const TESTED: [Event; 14] = [
     ("behind an overlapping pair of the same recordings", |c| c.pairs.tested_behind),
     ("of recordings that only touch", |c| c.any(|two| two.counts.only_touch())),
     ("of recordings that are apart", |c| {
-        c.any(|two| !two.near.is_empty() && !two.counts.leak() && !two.counts.only_touch())
+        c.any(|two| !two.near.is_empty() && !two.counts.overlap() && !two.counts.only_touch())
     }),
 ];
 

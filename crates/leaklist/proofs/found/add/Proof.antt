@@ -47,11 +47,11 @@ same-length c = simp length-set refl
 returns : tie.Need-returns
 returns c = let g = c .before .before .before .args in
     let p = c .before .before .before .pre in
-    (added (now (g .found)) (g .k) (g .test) (g .train) (g .t) (c .before .leak .ensures) (c .if1 .taken) (omega (arith, p .0, p .1)), omega arith)
+    (added (now (g .found)) (g .k) (g .e) (g .area) (g .train) (g .t) (c .before .leak .ensures) (c .if1 .taken) (omega (arith, p .0, p .1)), omega arith)
 
 returns-2 : tie.Need-returns-2
 returns-2 c = let g = c .before .before .before .args in
-    (not-added (now (g .found)) (g .k) (g .test) (g .train) (g .t) (c .before .leak .ensures) (c .if1 .left), omega arith)
+    (not-added (now (g .found)) (g .k) (g .e) (g .area) (g .train) (g .t) (c .before .leak .ensures) (c .if1 .left), omega arith)
 
 pub add-spec : {M : Type 1} → statement M
 add-spec =

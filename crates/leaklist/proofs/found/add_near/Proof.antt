@@ -66,8 +66,8 @@ returns c = let g = c .before .before .before .before .before .before .before .b
     let added = c .before .before .add .ensures in
     let f = entry-is (now (g .file)) (g .j) (g .at) (p .3) (c .before .before .before .before .before .before .before .before .before .before .before .before .before .before .before .before .entry-at .ensures .0) in
     let one = c .before .before .before .before .before .before .before .one-if .ensures in (
-      pair-added (foundIn (now (g .found)) (g .c)) (g .e .id) (c .before .before .before .before .before .before .before .before .before .before .before .before .before .before .before .before .entry-at .result .id) (c .before .before .before .before .before .before .before .before .before .tally .result) (added .0) (one .0 ∙ ap once (c .before .before .before .before .before .before .before .before .only-touch .ensures)) refl refl
-          ∙ ap (together (foundIn (now (g .found)) (g .c))) (an-item (now (g .file)) (g .i) (g .j) (p .2) f (c .before .before .before .before .before .before .before .before .before .before .before .before .before .before .before .is-training .ensures) (c .before .before .before .before .before .before .before .before .before .before .before .before .before .before .if1 .taken) (count-by (now (g .file)) (now (g .table)) (now (g .bounds)) (now (g .own)) (p .0) (g .i) (g .j) (p .1) (p .4) (p .2) f (c .before .before .before .before .before .before .before .before .before .tally .ensures))),
+      pair-added (foundIn (now (g .found)) (g .c)) (g .e) (g .area) (c .before .before .before .before .before .before .before .before .before .before .before .before .before .before .before .before .entry-at .result .id) (c .before .before .before .before .before .before .before .before .before .tally .result) (added .0) (one .0 ∙ ap once (c .before .before .before .before .before .before .before .before .only-touch .ensures)) refl refl
+          ∙ ap (together (foundIn (now (g .found)) (g .c))) (an-item (now (g .file)) (g .i) (g .j) (p .2) (p .10) f (c .before .before .before .before .before .before .before .before .before .before .before .before .before .before .before .is-training .ensures) (c .before .before .before .before .before .before .before .before .before .before .before .before .before .before .if1 .taken) (count-by (now (g .file)) (now (g .table)) (now (g .bounds)) (now (g .own)) (p .0) (g .i) (g .j) (p .1) (p .4) (p .2) f (c .before .before .before .before .before .before .before .before .before .tally .ensures))),
       added .1,
       omega (arith, one .1),
     )

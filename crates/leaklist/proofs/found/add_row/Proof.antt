@@ -12,10 +12,10 @@ use Rattle.leaklist.proofs.found.add_row.Statement.{statement}
 use Rattle.leaklist.proofs.found.add_row.Tie as tie
 
 abbrev Inv-loop : tie.InvT-loop
-Inv-loop file table bounds own found₀ i e at count to₀ j₀ found to j = (j ≤ count) × (length found ≡ 12288) × (foundIn found to ≡ together (foundIn found₀ to₀) (rowTo file i j)) × (to .leaks ≤ to₀ .leaks + j) × (to .touching ≤ to₀ .touching + j)
+Inv-loop file table bounds own found₀ i e area at count to₀ j₀ found to j = (j ≤ count) × (length found ≡ 12288) × (foundIn found to ≡ together (foundIn found₀ to₀) (rowTo file i j)) × (to .leaks ≤ to₀ .leaks + j) × (to .touching ≤ to₀ .touching + j)
 
 abbrev μ-loop : tie.MeasureT-loop
-μ-loop file table bounds own found₀ i e at count to₀ j₀ found to j = count - j
+μ-loop file table bounds own found₀ i e area at count to₀ j₀ found to j = count - j
 
 loop-holds : tie.Need-loop-holds Inv-loop μ-loop
 loop-holds c = let g = c .before .before .before .before .before .args in
@@ -30,7 +30,7 @@ add-pair-requires c κs = let g = c .before .before .before .before .before .bef
     let so-far = ap (λ f. f .tested) (l .inv .2) in
     let part = row-part (now (g .file)) (g .i) (l .j) (g .count) h in
     let all = ap (λ n. rowTo (now (g .file)) (g .i) n .tested) (p .4) in
-    (p .0, p .1, p .2, p .3, omega (arith, h, p .4), omega (arith, h, l .inv .3, p .4, p .5, most), omega (arith, h, l .inv .4, p .4, p .6, most), omega (arith, so-far, part, all, p .7), l .inv .1)
+    (p .0, p .1, p .2, p .3, omega (arith, h, p .4), omega (arith, h, l .inv .3, p .4, p .5, most), omega (arith, h, l .inv .4, p .4, p .6, most), omega (arith, so-far, part, all, p .7), l .inv .1, p .9)
 
 add-j : tie.Need-add-j Inv-loop μ-loop
 add-j c = search needs

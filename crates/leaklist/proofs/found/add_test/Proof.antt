@@ -2,7 +2,7 @@
 use denote.Ref.{now}
 use mathlib.Core.Path.{sym, ap, _∙_}
 use native.Mathlib.Omega.{arith}
-use Rattle.leaklist.proofs.Gathered.{entry-is, with-nothing, row-if}
+use Rattle.leaklist.proofs.Gathered.{entry-is, area-fits, area-by, with-nothing, row-if}
 use Rattle.leaklist.specs.Code.{foundIn, together}
 use borrow.Author.Needs.{needs}
 use Rattle.leaklist.proofs.found.add_test.Statement.{statement}
@@ -20,22 +20,27 @@ entry-at-requires c κs = search needs
 is-test-requires : tie.Need-is-test-requires
 is-test-requires c κs = search needs
 
+asked-area-requires : tie.Need-asked-area-requires
+asked-area-requires c κs = let g = c .before .before .before .before .before .before .before .before .args in
+    let p = c .before .before .before .before .before .before .before .before .pre in
+    area-fits (now (g .file)) (now (g .table)) (now (g .bounds)) (now (g .own)) (p .0) (g .i) (p .1) (entry-is (now (g .file)) (g .i) (g .at) (p .2) (c .before .before .entry-at .ensures .0))
+
 add-row-requires : tie.Need-add-row-requires
-add-row-requires c κs = let g = c .before .before .before .before .before .before .before .before .before .args in
-    let p = c .before .before .before .before .before .before .before .before .before .pre in
-    let e = entry-is (now (g .file)) (g .i) (g .at) (p .2) (c .before .before .before .entry-at .ensures .0) in
-    let t = ap (λ f. f .tested) (row-if (now (g .file)) (g .i) e (c .before .before .is-test .ensures) (c .before .if1 .taken)) in
-    (p .0, p .1, e, p .2, p .3, p .4, p .5, omega (arith, t, p .6), p .7)
+add-row-requires c κs = let g = c .before .before .before .before .before .before .before .before .before .before .args in
+    let p = c .before .before .before .before .before .before .before .before .before .before .pre in
+    let e = entry-is (now (g .file)) (g .i) (g .at) (p .2) (c .before .before .before .before .entry-at .ensures .0) in
+    let t = ap (λ f. f .tested) (row-if (now (g .file)) (g .i) e (c .before .before .before .is-test .ensures) (c .before .before .if1 .taken)) in
+    (p .0, p .1, e, p .2, p .3, p .4, p .5, omega (arith, t, p .6), p .7, area-by (now (g .file)) (now (g .table)) (now (g .bounds)) (now (g .own)) (p .0) (g .i) (p .1) e (c .before .asked-area .ensures))
 
 same-length : tie.Need-same-length
 same-length c = search needs
 
 returns : tie.Need-returns
-returns c = let g = c .before .before .before .before .before .before .before .before .before .before .before .before .args in
-    let p = c .before .before .before .before .before .before .before .before .before .before .before .before .pre in
+returns c = let g = c .before .before .before .before .before .before .before .before .before .before .before .before .before .args in
+    let p = c .before .before .before .before .before .before .before .before .before .before .before .before .before .pre in
     let a = c .before .before .add-row .ensures in
-    let e = entry-is (now (g .file)) (g .i) (g .at) (p .2) (c .before .before .before .before .before .before .entry-at .ensures .0) in
-    (a .0 ∙ ap (together (foundIn (now (g .found)) (g .c))) (sym (row-if (now (g .file)) (g .i) e (c .before .before .before .before .before .is-test .ensures) (c .before .before .before .before .if1 .taken))), a .1, a .2)
+    let e = entry-is (now (g .file)) (g .i) (g .at) (p .2) (c .before .before .before .before .before .before .before .entry-at .ensures .0) in
+    (a .0 ∙ ap (together (foundIn (now (g .found)) (g .c))) (sym (row-if (now (g .file)) (g .i) e (c .before .before .before .before .before .before .is-test .ensures) (c .before .before .before .before .before .if1 .taken))), a .1, a .2)
 
 returns-2 : tie.Need-returns-2
 returns-2 c = let g = c .before .before .before .before .before .before .before .before .args in
@@ -51,6 +56,7 @@ add-test-spec =
     add-entry-at
     entry-at-requires
     is-test-requires
+    asked-area-requires
     add-row-requires
     same-length
     returns

@@ -1,5 +1,6 @@
--- One more tested, and one more of either if it overlaps or touches.
+-- One more tested, one more of either if it overlaps or touches, and its area added.
 use Prim.Native.Nat.{_+_}
+use mathlib.Core.Bool.{_||_}
 use mathlib.Core.Path.{refl, ap, _∙_}
 use native.Mathlib.Omega.{arith}
 use Rattle.floats.specs.Lists.{once}
@@ -29,11 +30,17 @@ add-touching c = search needs
 add-tested : tie.Need-add-tested
 add-tested c = search needs
 
+is-refused-requires : tie.Need-is-refused-requires
+is-refused-requires c κs = search needs
+
+with-area-requires : tie.Need-with-area-requires
+with-area-requires c κs = search needs
+
 returns : tie.Need-returns
-returns c = let g = c .before .before .before .before .before .before .before .args in
-    let more = c .before .before .before .before .before .one-if .ensures in
-    let also = c .before .before .one-if2 .ensures in
-    (tally-same (ap (λ n. g .t .overlapping + n) (more .0 ∙ ap once (c .before .before .before .before .before .before .overlaps .ensures))) (ap (λ n. g .t .touching + n) (also .0 ∙ ap once (c .before .before .before .touches .ensures))) refl, omega (arith, more .1), omega (arith, also .1), omega arith)
+returns c = let g = c .before .before .before .before .before .before .before .before .before .before .args in
+    let more = c .before .before .before .before .before .before .before .before .one-if .ensures in
+    let also = c .before .before .before .before .before .one-if2 .ensures in
+    (tally-same (ap (λ n. g .t .overlapping + n) (more .0 ∙ ap once (c .before .before .before .before .before .before .before .before .before .overlaps .ensures))) (ap (λ n. g .t .touching + n) (also .0 ∙ ap once (c .before .before .before .before .before .before .touches .ensures))) refl (ap (λ b. g .t .refused || b) (c .before .before .is-refused .ensures)) (c .with-area .ensures), omega (arith, more .1), omega (arith, also .1), omega arith)
 
 pub tallied-spec : {M : Type 1} → statement M
 tallied-spec =
@@ -46,4 +53,6 @@ tallied-spec =
     one-if-requires-2
     add-touching
     add-tested
+    is-refused-requires
+    with-area-requires
     returns)
