@@ -49,6 +49,26 @@ main_cases() {
     in_shell 'no temporary directory' 3 '' 'cannot make a temporary directory' 'TMPDIR=/nowhere ask leak.footprint'
 }
 
+# The file comes through a pipe, cut anywhere: its end is where the pipe is closed, whatever comes before that and however late. For what really answers.
+in_pieces() {
+    local zeros='head -c "$1" /dev/zero; sleep 0.1; head -c "$2" /dev/zero'
+    in_shell 'byte by byte' "$done" "$whole" '' "for ((i = 0; i < 84; i++)); do dd bs=1 count=1 status=none; sleep 0.005; done <leak.footprint | ask $input"
+    in_shell 'byte by byte, cut off' 2 "$cut" "$cut_words" "for ((i = 0; i < 60; i++)); do dd bs=1 count=1 status=none; sleep 0.001; done <leak.footprint | ask $input"
+    in_shell 'uneven pieces with pauses' "$done" "$whole" '' "(for n in 1 11 0 36 12; do head -c \$n; sleep 0.05; done; cat) <leak.footprint | ask $input"
+    in_shell 'nothing for a while' "$done" "$whole" '' "(sleep 0.2; cat leak.footprint) | ask $input"
+    in_shell 'a whole file, and its end later' "$done" "$whole" '' "(cat leak.footprint; sleep 0.2) | ask $input"
+    in_shell 'a whole file, and a byte later' 2 "$cut" "$cut_words" "(cat leak.footprint; sleep 0.2; echo) | ask $input"
+    in_shell 'a sender that is killed' 2 "$cut" "$cut_words" "(head -c 60 leak.footprint; kill -KILL \$BASHPID) | ask $input"
+    in_shell 'nothing at all' 2 $'refused 11 at 0\n' 'refused 11: ' "sleep 0.1 | ask $input"
+    in_shell '65,536 bytes in pieces' 2 "$cut" "$cut_words" "($zeros) | ask $input" 65535 1
+    in_shell '65,536 bytes, and the end later' 2 "$cut" "$cut_words" "($zeros) | ask $input" 65536 0
+    in_shell '65,537 bytes in pieces' 2 $'refused 11 at 0\n' 'refused 11: ' "($zeros) | ask $input" 65536 1
+    in_shell 'a good file, and then too much' 2 $'refused 11 at 0\n' 'refused 11: ' "(cat night.footprint; sleep 0.1; cat night.footprint) | ask $input"
+    in_shell 'endless lines' 2 $'refused 11 at 0\n' 'refused 11: ' "yes | ask $input"
+    in_shell 'endless bytes, one by one' 2 $'refused 11 at 0\n' 'refused 11: ' "dd if=/dev/zero bs=1 status=none | ask $input"
+    in_shell 'a good file, and then no end' 2 $'refused 11 at 0\n' 'refused 11: ' "(cat leak.footprint; sleep 0.1; yes) | ask $input"
+}
+
 # The others, which a stand-in will do for.
 other_cases() { # all or less
     reads

@@ -1,6 +1,6 @@
 /* Meskelow: the intersection of two triangles and what each corner of it is, whether they overlap, touch or are apart, the reader
- * and the writer of footprint files, their recordings as well-known text and the leak list, proved against their rules
- * (docs/RULES.md).
+ * and the writer of footprint files, also of files that arrive in pieces, their recordings as well-known text and the leak list,
+ * proved against their rules (docs/RULES.md).
  *
  * Link target/staticlib/libmeskelow.a, which `rt staticlib meskelow` makes: x86-64 Linux code that calls nothing but the C
  * library's memcpy and memset, allocates nothing, keeps no state and may be called from any number of threads at once. meskelow_leaks
@@ -9,17 +9,18 @@
  * What is proved (docs/PROMISES.md names each theorem): whatever numbers, bytes and lengths are passed, every call ends and
  * returns exactly the answer of the rules, in every bit of every field and of the room; nothing is read or written outside the
  * slices that are lent; nothing changes beyond the first 2n values of the room (of a NaN there it is proved that it is still a
- * NaN) or beyond the bytes of the list, the text or the file that is written, and nothing at all by a call that is refused or that
- * is lent no room; every file that is written is accepted and has what was given; every text reads back as the triangles. Not
- * proved: the compiler's back end, memcpy, memset, and the caller.
+ * NaN) or beyond the bytes of the list, the text, the file or the piece that is written, and nothing at all by a call that is
+ * refused or that is lent no room; every file that is written is accepted and has what was given; every text reads back as the
+ * triangles; a file that arrives in pieces, cut anywhere, is answered as the whole file is. Not proved: the compiler's back end,
+ * memcpy, memset, and the caller.
  *
  * A program that calls meskelow_write and was compiled with a header before version 0.8 has to be changed and compiled again: the
  * function takes one list more (see there), and the linker does not notice.
  *
- * What is left to the caller: the lengths are true, so that so many doubles, integers or bytes may be read, and in the room read
- * and written; the room overlaps no values, file or list that is lent with it; nobody writes to what is lent before the call has
- * returned; and the processor rounds to nearest and keeps subnormal values, as it does unless a program asks otherwise. A length
- * of 0 goes with any pointer, NULL too. */
+ * What is left to the caller: the lengths are true, so that so many doubles, integers or bytes may be read, and in the room or the
+ * buffer read and written; the room overlaps no values, file or list that is lent with it, and the buffer no piece; nobody writes
+ * to what is lent before the call has returned, or to a buffer before its file has ended; and the processor rounds to nearest and
+ * keeps subnormal values, as it does unless a program asks otherwise. A length of 0 goes with any pointer, NULL too. */
 #ifndef MESKELOW_H
 #define MESKELOW_H
 
@@ -135,12 +136,12 @@ typedef struct {
  * a pair that meskelow_decide calls apart may have a ring here, by rounding. */
 meskelow_corner meskelow_corner_at(const double *values, size_t values_len, size_t place);
 
-/* Footprint files: README.md has the format. A file is lent whole, as the bytes that it has. Reading it from a disk or writing it
- * to one, and what can go wrong with that, is the caller's. */
+/* Footprint files: README.md has the format. A file is lent whole, as the bytes that it has; one that comes in pieces is collected
+ * first, by meskelow_piece. Reading it from a disk or writing it to one, and what can go wrong with that, is the caller's. */
 
 enum {
-    MESKELOW_LONGEST_FILE = 65536 /* bytes. Whoever reads a file into such a buffer should make it a byte longer, so that a longer
-                                   * file is seen to be too long */
+    MESKELOW_LONGEST_FILE = 65536 /* bytes. Whoever reads a file into such memory should make it a byte longer, so that a longer
+                                   * file is seen to be too long (which meskelow_piece sees to by itself) */
 };
 
 /* Entries are judged before 15, each for 14 and then for 16; triangles last, each for 17 and then 18. meskelow_write says 13 to 18
@@ -168,6 +169,62 @@ typedef struct {
 } meskelow_verdict;
 
 meskelow_verdict meskelow_check(const uint8_t *file, size_t file_len);
+
+enum {
+    MESKELOW_BUFFER = 65536 /* bytes of the buffer in which a file arrives: as many as the longest file has, and exactly so many. A
+                             * shorter one would not hold every file, and what a longer one has more is for nothing; so any other
+                             * length is taken for a mistake */
+};
+
+enum { /* refusals.tsv: arrival */
+    MESKELOW_REFUSED_AFTER_END = 22,    /* the file has already ended: it takes no further piece, not even an empty one, and no
+                                         * second end */
+    MESKELOW_REFUSED_BUFFER_LENGTH = 23 /* the buffer in which a file arrives does not have exactly 65,536 bytes */
+};
+
+typedef struct {
+    uint32_t number;   /* of a piece, 0 or one of the refusals above. Of an end, 0 if the file is good; else the file's own refusal,
+                        * 11 to 18, or one of those above */
+    uint32_t place;    /* the file's own, or 0 */
+    uint32_t arrived;  /* how many bytes of the file have arrived; 65,537 where there are more than 65,536, however many they are */
+    uint32_t ended;    /* 0 before the file's end, 1 from its end on. Both, and not the number, go into the next call */
+} meskelow_arrival;
+
+/* A file that arrives in pieces, as over a link that delivers what it happens to have. They are put together in a lent buffer of
+ * MESKELOW_BUFFER bytes, one piece a call, and when the sender says that the file has ended, so does meskelow_end. Nothing is kept in
+ * the library: what has to be known from call to call are the buffer's bytes and two numbers, which are 0 and 0 before the first call
+ * and then what the call before handed back.
+ *
+ *     meskelow_arrival a = {0, 0, 0, 0};
+ *     while (there is a piece)
+ *         a = meskelow_piece(a.arrived, a.ended, piece, piece_len, buffer, MESKELOW_BUFFER);
+ *     a = meskelow_end(a.arrived, a.ended, buffer, MESKELOW_BUFFER);
+ *     if (a.number == 0)
+ *         the file is good: hand buffer and a.arrived to any other function
+ *
+ * A piece has any length. Its bytes are put into the buffer behind those that have arrived; the bytes behind them stay as they were
+ * lent. The answer is 0 at 0, with the new arrived. An empty piece, NULL too, is one that changes nothing. Of a piece that does not
+ * fit, the part that does is put down and the rest is dropped, and it is not refused: it is the end that says 11.
+ *
+ * The end judges the file. Its number and place are what meskelow_check answers for all pieces in one, wherever they were cut: 0 at 0,
+ * or 11 to 18; 11 at 0 also where no byte has arrived, or over 65,536 have. It writes nothing, and the file has then ended, good or
+ * not. Of a good file arrived is its length. After 11 for too many bytes arrived is 65,537, which is more than the buffer has: it must
+ * not be handed on as a length, so look at the number first.
+ *
+ * A call is refused for the first of these that applies. Then nothing changes: the buffer stays, place is 0, and arrived and ended are
+ * handed back as they were handed in, whatever they are.
+ *
+ *     23  buffer_len is not MESKELOW_BUFFER, for any piece and any end
+ *     22  ended is not 0: a piece, an empty one too, or an end that comes after the end
+ *
+ * What is left to the caller, beside the lengths: piece and buffer do not overlap; from the first piece to the end it is the same
+ * buffer, and nobody else writes to it, as the end judges the bytes that it finds there; and arrived and ended are those that the call
+ * before handed back. (An arrived over 65,537, which no call hands back, is taken for too many bytes: the buffer stays, the end is 11,
+ * and 65,537 is handed back.) A link that breaks off, or a read that fails, is no end of the file: say it only if the sender did. The
+ * next file begins with 0 and 0 again, in this buffer or another; files that arrive at the same time have a buffer each. */
+meskelow_arrival meskelow_piece(uint32_t arrived, uint32_t ended, const uint8_t *piece, size_t piece_len, uint8_t *buffer,
+                                size_t buffer_len);
+meskelow_arrival meskelow_end(uint32_t arrived, uint32_t ended, const uint8_t *buffer, size_t buffer_len);
 
 enum { /* the sets of recordings, as they are stored */
     MESKELOW_TRAINING = 0,

@@ -31,6 +31,11 @@
 
     print(meskelow.wkt(file, found.leaks[0].test))  # for a viewer: GEOMETRYCOLLECTION (POLYGON ((0.00 0.00, 4.00 0.00, ...
 
+    arrival = meskelow.Arrival()  # of a file that comes in pieces, cut anywhere
+    for piece in link:  # an iterable that raises an error where the link breaks off: that is no end of the file
+        arrival.piece(piece)
+    file = arrival.end()  # the whole file, which is good; or it is refused, as it would have been in one
+
 What the rules refuse is raised as `Refused`, a ValueError that carries their number and place. So whatever a function
 returns is an answer.
 
@@ -44,8 +49,8 @@ thread has that, unless `threading.stack_size` or the system gave it less than 5
 A triangle is three vertices with two coordinates each, in lists, tuples or arrays such as numpy's. A coordinate is whatever Python
 takes for a float, and becomes one by Python's rules: a whole number may be rounded, and one that is beyond every float is an
 OverflowError. Text and complex numbers are a TypeError. Only `write` asks for whole centimetres, and takes no float for one. A file
-is what lends its bytes: bytes, bytearray, memoryview, mmap or an array of any kind, by the bytes that it holds, in its order. A
-file's name is a TypeError.
+is what lends its bytes: bytes, bytearray, memoryview, mmap or an array of any kind, by the bytes that it holds, in its order; and
+so is a piece of one. A file's name is a TypeError.
 """
 
 from __future__ import annotations
@@ -63,7 +68,8 @@ import platform
 import re
 import struct
 import sys
-from typing import Dict, Iterable, Iterator, List, NamedTuple, Protocol, Sequence, SupportsIndex, Tuple, Type, Union
+import threading
+from typing import Dict, Iterable, Iterator, List, NamedTuple, NoReturn, Protocol, Sequence, SupportsIndex, Tuple, Type, Union
 
 ROOT = pathlib.Path(__file__).resolve().parent.parent
 ARCHIVE = ROOT / "target" / "staticlib" / "libmeskelow.a"
@@ -93,6 +99,8 @@ REFUSED_NO_AREA = 18
 REFUSED_FILE_ROOM = 19
 REFUSED_TEXT_ROOM = 20
 REFUSED_NO_ID = 21
+REFUSED_AFTER_END = 22
+REFUSED_BUFFER_LENGTH = 23
 
 Bytes = Union[bytes, bytearray, memoryview]  # or whatever else has a buffer
 Triangle = Sequence[Sequence[float]]  # three (x, y)
@@ -101,13 +109,15 @@ Flags = Tuple[bool, bool, bool]
 
 _LEAK = re.compile("test ([0-9]+) train ([0-9]+) pairs ([0-9]+)\n")
 _LONGEST_TEXT = 256545  # bytes: 94 for each of 2,729 triangles, with the comma and the space before it, and 19
+_BUFFER = 65536  # bytes, as many as the longest file has: the library collects the pieces of a file in just so many
 
 
 class Refused(ValueError):
     """There is no answer. `number` is the rules' refusal, one of the numbers above: 1 to 5 of two triangles, 6 of a corner that their
     ring does not have, 11 to 18 of a file, 10 of a recording that a good file does not have, 21 of an id that it does not have, 13 to
-    19 of recordings that are to be written. (7 and 20 do not occur: a list and a text get all the room that they can need.) `place`
-    is the byte offset in the file that the refusal reports, or 0; of triangles, corners and what is to be written it is 0. The text
+    19 of recordings that are to be written, 22 of what comes after the end of a file that arrived in pieces. (7, 20 and 23 do not
+    occur: a list and a text get all the room that they can need, and pieces the buffer that they ask for.) `place` is the byte offset
+    in the file that the refusal reports, or 0; of triangles, corners, what is to be written and what comes too late it is 0. The text
     has the words of refusals.tsv."""
 
     def __init__(self, number: int, place: int = 0) -> None:
@@ -277,6 +287,58 @@ def check(file: Bytes) -> None:
     _raise_if_refused(got.number, got.place)
 
 
+class Arrival:
+    """A file that arrives in pieces, of any lengths, some of them empty. Each is put behind those before it, and `end` says what the
+    file is. An Arrival is of one file; the next one has its own. Any number of threads may call it: no piece is lost then, and they
+    come in the order of the calls."""
+
+    def __init__(self) -> None:
+        self._buffer = ctypes.create_string_buffer(_BUFFER)
+        self._arrived = self._ended = 0
+        self._lock = threading.Lock()  # as other threads go on while the library works
+
+    @property
+    def arrived(self) -> int:
+        """How many bytes have arrived; 65,537 if there are over 65,536, which no file has, however many they are."""
+        return self._arrived
+
+    @property
+    def ended(self) -> bool:
+        """Whether `end` was called, of a file that was refused too."""
+        return self._ended != 0
+
+    def piece(self, piece: Bytes) -> None:
+        """Adds a piece. Nothing is said of a file before its end: bytes beyond 65,536 are dropped, and it is the end that refuses the
+        file for them. Raises `Refused`, 22, if the file has ended; nothing changes then, nor by a TypeError for what is no bytes."""
+        lent = _lent(piece)
+        with self._lock:
+            self._take(_library().meskelow_piece(self._arrived, self._ended, lent, len(lent), self._buffer, _BUFFER))
+
+    def end(self) -> bytes:
+        """Ends the file and returns it, if it is good: the bytes of all pieces in their order. To be called when the sender says that
+        the file is whole, and not where a link broke off. Raises `Refused`, 11 to 18, as `check` does of the same bytes in one, and the
+        file has ended all the same; or 22, if it had ended before."""
+        with self._lock:
+            file = self._held()
+            self._take(_library().meskelow_end(self._arrived, self._ended, self._buffer, _BUFFER))
+            return file
+
+    def __bytes__(self) -> bytes:
+        """What has arrived, whether it is a file or not; the first 65,536 bytes, if there are more. So what was refused can be kept."""
+        with self._lock:
+            return self._held()
+
+    def __reduce__(self) -> NoReturn:
+        raise TypeError("an Arrival cannot be copied or pickled")  # a copy would write to the same buffer
+
+    def _held(self) -> bytes:
+        return ctypes.string_at(self._buffer, min(self._arrived, _BUFFER))
+
+    def _take(self, got: _Arrived) -> None:
+        self._arrived, self._ended = got.arrived, got.ended
+        _raise_if_refused(got.number, got.place)
+
+
 def recording(file: Bytes, k: SupportsIndex) -> Recording:
     """Recording k of the file, from 0. What is no index of a list is none here: 1.0 is a TypeError, True is 1. Raises `Refused`,
     11 to 18, or 10 for a number that is not there, also one below 0: none counts from the end."""
@@ -417,6 +479,10 @@ class _Verdict(ctypes.Structure):
     _fields_ = [("number", ctypes.c_uint32), ("place", ctypes.c_uint32)]
 
 
+class _Arrived(ctypes.Structure):
+    _fields_ = [(name, ctypes.c_uint32) for name in ("number", "place", "arrived", "ended")]
+
+
 class _Entry(ctypes.Structure):
     _fields_ = [(name, ctypes.c_uint32) for name in ("number", "place", "id", "first", "count", "set", "last")]
 
@@ -444,6 +510,11 @@ _FUNCTIONS = {
     "meskelow_corner_at": (_Corner, [_DOUBLES, ctypes.c_size_t, ctypes.c_size_t]),
     "meskelow_decide": (_Decision, [_DOUBLES, ctypes.c_size_t]),
     "meskelow_check": (_Verdict, [ctypes.c_char_p, ctypes.c_size_t]),
+    "meskelow_piece": (
+        _Arrived,
+        [ctypes.c_uint32, ctypes.c_uint32, ctypes.c_char_p, ctypes.c_size_t, ctypes.c_char_p, ctypes.c_size_t],
+    ),
+    "meskelow_end": (_Arrived, [ctypes.c_uint32, ctypes.c_uint32, ctypes.c_char_p, ctypes.c_size_t]),
     "meskelow_recording": (_Entry, [ctypes.c_char_p, ctypes.c_size_t, ctypes.c_size_t]),
     "meskelow_write": (
         _Written,

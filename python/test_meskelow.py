@@ -3,7 +3,9 @@ and README.md. The night's list and an area that rounding makes are the second p
 that `footprint` packs, and well-known texts those that `text_of` makes in another way."""
 
 import array
+import collections
 import contextlib
+import copy
 import ctypes
 import decimal
 import fractions
@@ -87,6 +89,25 @@ def footprint(*recordings):
         table += struct.pack("<IIHBB", identity, len(triangles), len(own), which, *last or [0])
         triangles += b"".join(struct.pack("<6i", *(c for vertex in triangle for c in vertex)) for triangle in own)
     return triangles + table + struct.pack("<III", len(triangles), len(recordings), len(triangles) + len(table) + 12)
+
+
+REFUSED_FILES = [
+    (b"", 11, 0),
+    (bytes(65537), 11, 0),
+    (LEAK[:60], 12, 0),
+    (bytes(65536), 12, 0),
+    (changed(76, 3), 13, 72),
+    (changed(70, 3), 14, 60),
+    (changed(71, 2), 14, 60),
+    (changed(71, 129), 14, 60),
+    (changed(71, 255), 14, 60),
+    (changed(59, 1), 14, 48),
+    (footprint((7, 2, [V], 1), (9, 1, [D])), 14, 24 * 2),
+    (changed(68, 2), 15, 48),
+    (changed(60, 7), 16, 60),
+    (changed(27, 0x80), 17, 24),
+    (LEAK[:8] + bytes(8) + LEAK[16:], 18, 0),
+]
 
 
 def own(identity, which, triangles, **more):
@@ -585,23 +606,7 @@ class Files(Case):
 
     def test_refusals(self):
         asked = (meskelow.check, meskelow.leaks, lambda f: meskelow.recording(f, 5), lambda f: list(meskelow.recordings(f)))
-        for file, number, place in [
-            (b"", 11, 0),
-            (bytes(65537), 11, 0),
-            (LEAK[:60], 12, 0),
-            (bytes(65536), 12, 0),
-            (changed(76, 3), 13, 72),
-            (changed(70, 3), 14, 60),
-            (changed(71, 2), 14, 60),
-            (changed(71, 129), 14, 60),
-            (changed(71, 255), 14, 60),
-            (changed(59, 1), 14, 48),
-            (footprint((7, 2, [V], 1), (9, 1, [D])), 14, 24 * 2),
-            (changed(68, 2), 15, 48),
-            (changed(60, 7), 16, 60),
-            (changed(27, 0x80), 17, 24),
-            (LEAK[:8] + bytes(8) + LEAK[16:], 18, 0),
-        ]:
+        for file, number, place in REFUSED_FILES:
             for ask in asked:
                 with self.subTest(number=number), self.refused(number, place):
                     ask(file)
@@ -897,6 +902,312 @@ class Files(Case):
         thread.start()
         thread.join()
         self.assertEqual(texts, [(EXAMPLES / "night.expected").read_text()])
+
+
+def cut(file, *places):
+    """The file, cut at these places, of which some may be the same."""
+    ends = [0, *sorted(places), len(file)]
+    return [file[i:j] for i, j in zip(ends, ends[1:])]
+
+
+class Arrivals(Case):
+    def arrival(self, *pieces):
+        """Of these pieces. Nothing is said of them before the end, and the bytes that came are counted, up to one too many."""
+        arrival = meskelow.Arrival()
+        total = 0
+        self.has(arrival, 0, False)
+        for piece in pieces:
+            self.assertIsNone(arrival.piece(piece))
+            total += len(piece)
+            self.has(arrival, min(total, 65537), False)
+        return arrival
+
+    def has(self, arrival, arrived, ended):
+        self.assertEqual((arrival.arrived, arrival.ended), (arrived, ended))
+        self.assertEqual((type(arrival.arrived), type(arrival.ended)), (int, bool))
+
+    def has_ended(self, arrival, arrived, held):
+        """And whatever comes now is refused and changes nothing."""
+        for late in (lambda: arrival.piece(b""), lambda: arrival.piece(LEAK), lambda: arrival.piece(bytes(65537)), arrival.end):
+            self.has(arrival, arrived, True)
+            self.assertEqual(bytes(arrival), held)
+            with self.refused(22, 0):
+                late()
+
+    def good(self, *pieces):
+        file = b"".join(pieces)
+        arrival = self.arrival(*pieces)
+        got = arrival.end()
+        self.assertIs(type(got), bytes)
+        self.assertEqual(got, file)
+        self.has_ended(arrival, len(file), file)
+
+    def bad(self, number, place, *pieces):
+        file = b"".join(pieces)
+        arrival = self.arrival(*pieces)
+        with self.refused(number, place):
+            arrival.end()
+        self.has_ended(arrival, min(len(file), 65537), file[:65536])
+
+    def test_cut_anywhere(self):
+        for place in range(85):
+            self.good(*cut(LEAK, place))
+        for places in itertools.combinations_with_replacement(range(0, 85, 7), 3):
+            self.good(*cut(LEAK, *places))
+        for place in range(13):
+            self.good(*cut(EMPTY, place))
+
+    def test_byte_by_byte(self):
+        self.good(*cut(LEAK, *range(85)))
+        self.good(*cut(LEAK, *range(85), *range(85)))
+
+    def test_whole(self):
+        self.good(LEAK)
+        self.good(b"", b"", LEAK, b"")
+
+    def test_refusals(self):
+        for file, number, place in REFUSED_FILES:
+            self.bad(number, place, file)
+            for at in (0, 1, 12, 30, 48, 60, 71, 72, 83, 84, 65535, 65536):
+                with self.subTest(number=number, at=at):
+                    self.bad(number, place, *cut(file, min(at, len(file))))
+                    self.bad(number, place, *cut(file, min(at, len(file)), len(file) // 2, len(file) // 2))
+        for file, number, place in [("cut", 12, 0), ("cut_night", 12, 0), ("dropped", 17, 24)]:
+            pieces = cut((EXAMPLES / f"{file}.footprint").read_bytes(), 5, 5, 59)
+            self.bad(number, place, *pieces)
+
+    def test_nothing(self):
+        self.bad(11, 0)
+        self.bad(11, 0, b"")
+        self.bad(11, 0, b"", b"", b"")
+        self.bad(11, 0, EMPTY[:6], EMPTY[6:11])
+
+    def test_a_part(self):
+        """Every file that is cut off has another length than its last four bytes say, here at least."""
+        for length in range(12, 84):
+            self.bad(12, 0, *cut(LEAK[:length], 7))
+
+    def test_long(self):
+        """65,536 bytes are judged as any others, and with one more it is too long, wherever it is cut and however far it goes on."""
+        for places in [(), (1,), (65535,), (32768, 32768), range(0, 65536, 1000)]:
+            self.bad(12, 0, *cut(bytes(65536), *places))
+            self.bad(11, 0, *cut(bytes(65537), *places))
+        for lengths in [(65536, 1), (65536, 0, 1, 0), (65535, 2), (65536, 65536), (1, 65536, 1), (131072,), (2**20, 2**20), (65537, 0)]:
+            with self.subTest(lengths=lengths):
+                self.bad(11, 0, *map(bytes, lengths))
+        longest = footprint((7, 1, [V] * 2000), (9, 0, [D] * 729))
+        self.assertEqual(len(longest), 65532)
+        self.good(*cut(longest, *range(0, 65532, 999)))
+        self.bad(12, 0, longest, bytes(4))
+        self.bad(11, 0, longest, bytes(5))
+        self.bad(11, 0, longest, bytes(4), b"", LEAK)
+        self.bad(11, 0, longest, longest)
+
+    def test_what_does_not_fit_is_dropped(self):
+        arrival = self.arrival(b"a" * 65530, b"bcdefghijk")
+        self.has(arrival, 65537, False)
+        self.assertEqual(bytes(arrival), b"a" * 65530 + b"bcdefg")
+        arrival.piece(b"x")
+        self.has(arrival, 65537, False)
+        self.assertEqual(bytes(arrival), b"a" * 65530 + b"bcdefg")
+
+    def test_too_late(self):
+        """Neither of a good file nor of one that was refused; and what was handed over stays as it is."""
+        arrival = self.arrival(LEAK)
+        file = arrival.end()
+        for _ in range(3):
+            for late in (b"", b"x", LEAK, bytes(65537)):
+                with self.refused(22, 0):
+                    arrival.piece(late)
+            with self.refused(22, 0):
+                arrival.end()
+        self.assertEqual(file, LEAK)
+
+    def test_kinds_of_bytes(self):
+        twice = memoryview(bytes(b for c in LEAK[40:] for b in (c, 1)))[::2]
+        rest = LEAK[40:]
+        for kind in (bytes, bytearray, memoryview, lambda b: array.array("B", b), lambda b: array.array("i", b), lambda b: twice):
+            arrival = self.arrival(LEAK[:40])
+            arrival.piece(kind(rest))
+            self.assertEqual((arrival.arrived, arrival.end()), (84, LEAK))
+
+    def test_no_bytes(self):
+        """What is none changes nothing, and neither does it after the end."""
+        arrival = self.arrival(LEAK[:40])
+        for piece in ("leak.footprint", EXAMPLES / "leak.footprint", 84, list(LEAK), None, 1.0):
+            with self.assertRaises(TypeError):
+                arrival.piece(piece)
+        self.has(arrival, 40, False)
+        arrival.piece(LEAK[40:])
+        self.assertEqual(arrival.end(), LEAK)
+        with self.assertRaises(TypeError):
+            arrival.piece("x")
+        with self.assertRaises(TypeError):
+            meskelow.check(arrival)
+
+    def test_a_piece_that_changes_later(self):
+        arrival = meskelow.Arrival()
+        piece = bytearray(7)
+        for part in cut(LEAK, *range(7, 84, 7)):
+            piece[:] = part
+            arrival.piece(piece)
+            piece[:] = b"changed"
+        self.assertEqual(arrival.end(), LEAK)
+
+    def test_what_has_arrived(self):
+        arrival = self.arrival()
+        for end in range(0, 84, 12):
+            self.assertEqual(bytes(arrival), LEAK[:end])
+            arrival.piece(LEAK[end : end + 12])
+        self.assertEqual(bytes(arrival), LEAK)
+
+    def test_several_at_once(self):
+        files = [LEAK, EMPTY, footprint((3, 1, [A, B, C])), footprint((9, 0, [D]), (7, 1, [E, F]))]
+        arrivals = [meskelow.Arrival() for _ in files]
+        for place in range(0, 200, 5):
+            for file, arrival in zip(files, arrivals):
+                arrival.piece(file[place : place + 5])
+        self.assertEqual([arrival.end() for arrival in arrivals], files)
+
+    def test_lists(self):
+        self.assertEqual(meskelow.leaks(self.arrival(*cut(LEAK, 1, 50)).end()).text, LIST)
+        night = (EXAMPLES / "night.footprint").read_bytes()
+        source = random.Random(9)
+        for _ in range(20):
+            pieces = cut(night, *(source.randint(0, len(night)) for _ in range(source.choice((1, 5, 100)))))
+            self.assertEqual(meskelow.leaks(self.arrival(*pieces).end()).text, (EXAMPLES / "night.expected").read_text())
+
+    def test_random_cuts(self):
+        source = random.Random(90)
+        files = [(LEAK, 0, 0), (EMPTY, 0, 0), *REFUSED_FILES]
+        for _ in range(1000):
+            file, number, place = source.choice(files)
+            places = [source.randint(0, min(len(file), source.choice((84, 65537)))) for _ in range(source.randint(0, 9))]
+            if number == 0:
+                self.good(*cut(file, *places))
+            else:
+                self.bad(number, place, *cut(file, *places))
+
+    def test_threads(self):
+        """Pieces of one file from several threads: none is lost or torn, whatever their order."""
+        arrival = meskelow.Arrival()
+        pieces = [bytes([number]) * 5 for number in range(8)]
+
+        def send(piece):
+            for _ in range(500):
+                arrival.piece(piece)
+
+        threads = [threading.Thread(target=send, args=(piece,)) for piece in pieces]
+        for thread in threads:
+            thread.start()
+        for thread in threads:
+            thread.join()
+        self.has(arrival, 8 * 500 * 5, False)
+        held = bytes(arrival)
+        self.assertEqual(collections.Counter(held[i : i + 5] for i in range(0, len(held), 5)), dict.fromkeys(pieces, 500))
+
+    def test_no_copies(self):
+        arrival = self.arrival(LEAK)
+        for take in (copy.copy, copy.deepcopy, pickle.dumps):
+            with self.assertRaises(TypeError):
+                take(arrival)
+        self.assertEqual(arrival.end(), LEAK)
+
+
+class Buffers(Case):
+    """What the library does with the buffer and the two numbers, of which an Arrival has its own."""
+
+    def setUp(self):
+        self.memory = bytearray(b"#" * (100 + 65536 + 100))
+        self.buffer = (ctypes.c_char * 65536).from_buffer(self.memory, 100)
+        self.expected = bytearray(self.memory)  # all of it, with what lies before and behind
+
+    def answers(self, got, number, place, arrived, ended):
+        self.assertEqual((got.number, got.place, got.arrived, got.ended), (number, place, arrived, ended))
+        self.assertEqual(self.memory, self.expected)
+
+    def piece(self, arrived, ended, piece, length=65536):
+        return meskelow._library().meskelow_piece(arrived, ended, piece, 0 if piece is None else len(piece), self.buffer, length)
+
+    def end(self, arrived, ended, length=65536):
+        return meskelow._library().meskelow_end(arrived, ended, self.buffer, length)
+
+    def puts(self, place, some):
+        self.expected[100 + place : 100 + place + len(some)] = some
+
+    def test_layout(self):
+        self.assertEqual(ctypes.sizeof(meskelow._Arrived), 16)
+        self.assertEqual([getattr(meskelow._Arrived, name).offset for name in ("number", "place", "arrived", "ended")], [0, 4, 8, 12])
+
+    def test_what_lies_behind_stays(self):
+        arrived = 0
+        for piece in (LEAK[:7], b"", LEAK[7:8], None, LEAK[8:60], LEAK[60:]):
+            self.puts(arrived, piece or b"")
+            arrived += len(piece or b"")
+            self.answers(self.piece(arrived - len(piece or b""), 0, piece), 0, 0, arrived, 0)
+        self.answers(self.end(84, 0), 0, 0, 84, 1)
+        self.assertEqual(meskelow.check(self.buffer.raw[:84]), None)
+
+    def test_the_end_judges_what_has_arrived(self):
+        self.puts(0, LEAK)
+        self.answers(self.piece(0, 0, LEAK), 0, 0, 84, 0)
+        self.answers(self.end(84, 0), 0, 0, 84, 1)
+        for arrived in (0, 1, 11):
+            self.answers(self.end(arrived, 0), 11, 0, arrived, 1)
+        for arrived in (12, 60, 83, 85, 100, 65535, 65536):
+            self.answers(self.end(arrived, 0), 12, 0, arrived, 1)
+        self.puts(76, b"\3")
+        self.answers(self.piece(76, 0, b"\3"), 0, 0, 77, 0)
+        self.answers(self.end(84, 0), 13, 72, 84, 1)
+
+    def test_at_the_buffer_s_end(self):
+        for arrived, piece, fits, after in [
+            (65530, b"abcdef", b"abcdef", 65536),
+            (65530, b"ghijklm", b"ghijkl", 65537),
+            (65530, bytes(200), bytes(6), 65537),
+            (65535, b"n", b"n", 65536),
+            (65535, b"op", b"o", 65537),
+            (65536, b"", b"", 65536),
+            (65536, None, b"", 65536),
+            (65536, b"q", b"", 65537),
+            (65536, bytes(65536), b"", 65537),
+            (65537, b"", b"", 65537),
+            (65537, b"r", b"", 65537),
+        ]:
+            with self.subTest(arrived=arrived, piece=piece and piece[:9]):
+                self.puts(arrived, fits)
+                self.answers(self.piece(arrived, 0, piece), 0, 0, after, 0)
+        self.answers(self.end(65536, 0), 12, 0, 65536, 1)
+        self.answers(self.end(65537, 0), 11, 0, 65537, 1)
+        self.puts(0, b"s" * 65536)
+        self.answers(self.piece(0, 0, b"s" * 70000), 0, 0, 65537, 0)
+
+    def test_an_arrived_that_is_none(self):
+        """No call hands it back: it is too many, and no sum of it and a length is cut to 32 bits."""
+        for arrived in (65538, 65539, 2**16 + 2**8, 2**17, 2**31, 2**32 - 65536, 2**32 - 50, 2**32 - 1):
+            for piece in (b"", b"x", b"y" * 50, b"z" * 100, bytes(65536)):
+                self.answers(self.piece(arrived, 0, piece), 0, 0, 65537, 0)
+            self.answers(self.end(arrived, 0), 11, 0, 65537, 1)
+
+    def test_ended(self):
+        """Any number but 0, and both come back as they are."""
+        for ended in (1, 2, 128, 256, 2**16, 2**31, 2**32 - 1):
+            for arrived in (0, 1, 84, 65536, 65537, 65538, 2**32 - 1):
+                for piece in (b"", None, b"x", LEAK):
+                    self.answers(self.piece(arrived, ended, piece), 22, 0, arrived, ended)
+                self.answers(self.end(arrived, ended), 22, 0, arrived, ended)
+
+    def test_other_lengths(self):
+        """Before 22, of an empty piece too, and both come back as they are. The buffer lies in memory that is as long."""
+        for length in (0, 1, 12, 84, 65520, 65535, 65537, 65636):
+            for ended in (0, 1, 2, 2**32 - 1):
+                for arrived in (0, 84, 65536, 65537, 65538, 2**32 - 1):
+                    for piece in (b"", None, b"x", LEAK):
+                        self.answers(self.piece(arrived, ended, piece, length), 23, 0, arrived, ended)
+                    self.answers(self.end(arrived, ended, length), 23, 0, arrived, ended)
+        got = meskelow._library().meskelow_piece(3, 0, b"x", 1, None, 0)
+        self.answers(got, 23, 0, 3, 0)
+        self.answers(meskelow._library().meskelow_end(3, 4, None, 0), 23, 0, 3, 4)
 
 
 class Writing(Case):
@@ -1427,6 +1738,10 @@ class Numpy(Case):
             self.assertEqual(meskelow.wkt(lent, 7), text_of([V]))
         with self.refused(12, 0):
             meskelow.check(file[:60])
+        arrival = meskelow.Arrival()
+        for piece in (file[:12].view("<i4"), file[:0], numpy.repeat(file[12:48], 2)[::2], mapped[48:]):
+            arrival.piece(piece)
+        self.assertEqual(arrival.end(), LEAK)
 
     def test_writing(self):
         for kind in ("i8", "i4", "i1", ">i4", "O"):
@@ -1473,6 +1788,8 @@ class Errors(Case):
             (meskelow.REFUSED_STORED_LENGTH, "the length in the trailer is not the file's"),
             (meskelow.REFUSED_NO_AREA, "a triangle has no area"),
             (meskelow.REFUSED_FILE_ROOM, "the room is shorter than the file to be written, or "),
+            (meskelow.REFUSED_AFTER_END, "the file has already ended"),
+            (meskelow.REFUSED_BUFFER_LENGTH, "the buffer in which a file arrives does not have exactly 65,536 bytes"),
             (6000, "a number that has no words here"),
         ]:
             self.assertTrue(str(meskelow.Refused(number, 24)).startswith(f"refused {number} at 24: {words}"))
@@ -1502,6 +1819,8 @@ class Errors(Case):
             self.says(text, meskelow.corners, A, V)
             self.says(text, meskelow.corner_at, A, V, 0)
             self.says(text, meskelow.check, LEAK)
+            self.says(text, meskelow.Arrival().piece, LEAK)
+            self.says(text, meskelow.Arrival().end)
             self.says(text, meskelow.recording, LEAK, 0)
             self.says(text, meskelow.write, [])
             self.says(text, meskelow.leaks, LEAK)

@@ -4,8 +4,16 @@ use std::env;
 use std::path::PathBuf;
 
 /// Those that make cases or files are not among them: they must build where there is no library.
-const CALLERS: [&str; 7] =
-    ["compare", "compare_files", "compare_leaks", "compare_written", "compare_wkt", "bench", "loop"];
+const CALLERS: [&str; 8] = [
+    "compare",
+    "compare_files",
+    "compare_leaks",
+    "compare_written",
+    "compare_wkt",
+    "compare_runs",
+    "bench",
+    "loop",
+];
 
 fn main() {
     let package =

@@ -1,6 +1,8 @@
-//! The rules for triangles, their corners, pair decisions, footprint files, leak lists, the writing of files
-//! and well-known text, written once more and apart from the proved crates, with inputs to compare the two by.
+//! The rules for triangles, their corners, pair decisions, footprint files, leak lists, the writing of files,
+//! well-known text and files that arrive in pieces, written once more and apart from the proved crates, with
+//! inputs to compare the two by.
 
+pub mod arrival;
 pub mod boxes;
 pub mod case;
 pub mod classes;
@@ -17,6 +19,7 @@ pub mod library;
 pub mod lists;
 pub mod pages;
 pub mod random;
+pub mod runs;
 pub mod table;
 pub mod tally;
 pub mod texts;

@@ -1,5 +1,6 @@
 //! The library under test, called as a C program would call it.
 
+use crate::arrival::{Arrival, State};
 use crate::corners::Corner;
 use crate::decision::Decision;
 use crate::footprint::{Entry, Verdict};
@@ -42,6 +43,15 @@ extern "C" {
         room_len: usize,
     ) -> Written;
     fn meskelow_wkt(file: *const u8, file_len: usize, id: u32, room: *mut u8, room_len: usize) -> Written;
+    fn meskelow_piece(
+        arrived: u32,
+        ended: u32,
+        piece: *const u8,
+        piece_len: usize,
+        buffer: *mut u8,
+        buffer_len: usize,
+    ) -> Arrival;
+    fn meskelow_end(arrived: u32, ended: u32, buffer: *const u8, buffer_len: usize) -> Arrival;
 }
 
 #[inline]
@@ -174,4 +184,31 @@ pub fn wkt(file: &[u8], id: u32, room: &mut [u8]) -> Written {
 /// As for `leaks_at`.
 pub unsafe fn wkt_at(file: *const u8, file_len: usize, id: u32, room: *mut u8, room_len: usize) -> Written {
     meskelow_wkt(file, file_len, id, room, room_len)
+}
+
+pub fn piece(state: State, piece: &[u8], buffer: &mut [u8]) -> Arrival {
+    // Two true slices that do not overlap.
+    unsafe { piece_at(state, piece.as_ptr(), piece.len(), buffer.as_mut_ptr(), buffer.len()) }
+}
+
+/// # Safety
+/// As for `leaks_at`, with the piece in the place of the file and the buffer in that of the room.
+pub unsafe fn piece_at(
+    state: State,
+    piece: *const u8,
+    piece_len: usize,
+    buffer: *mut u8,
+    buffer_len: usize,
+) -> Arrival {
+    meskelow_piece(state.arrived, state.ended, piece, piece_len, buffer, buffer_len)
+}
+
+pub fn end(state: State, buffer: &[u8]) -> Arrival {
+    unsafe { end_at(state, buffer.as_ptr(), buffer.len()) }
+}
+
+/// # Safety
+/// As for `check_at`.
+pub unsafe fn end_at(state: State, buffer: *const u8, buffer_len: usize) -> Arrival {
+    meskelow_end(state.arrived, state.ended, buffer, buffer_len)
 }

@@ -1,6 +1,7 @@
 //! Pairs to measure time with, in whole centimetres as a footprint file has them, and such files to read, to
-//! write, to list the leaks of and to show as text.
+//! write, to list the leaks of, to show as text and to take in pieces.
 
+pub mod arrivals;
 pub mod texts;
 pub mod tracks;
 

@@ -1,14 +1,13 @@
 -- Where a read brought bytes, there are some, and no more than were asked for. Assumes nothing.
-use Prim.Native.Nat.{ℕ, _<_, _≤_, min}
-use mathlib.Core.Path.{_≡_, refl, sym, ap, subst, _∙_}
+use Prim.Native.Nat.{ℕ, _<_, min}
+use mathlib.Core.Path.{_≡_, refl, _∙_}
 use mathlib.Core.Bool.{Bool, true, false, cond}
 use native.Mathlib.Omega.{arith}
 use lib.Dec.{eqb}
-use lib.IntN.{ℤ, pos, negsuc}
+use lib.IntN.{pos, negsuc}
 use borrow.Author.Tests.{eqb-false}
-use Rattle.input.specs.declared.Piece.{Piece}
-use Rattle.input.specs.declared.Piece.the-variants.{Failed, Ended, More}
-use Rattle.input.specs.Reading.{came, pieceOf, MoreWithin}
+use Rattle.input.specs.declared.Piece.the-variants.{Ended, More}
+use Rattle.input.specs.Reading.{MoreWithin}
 
 some : (b : Bool) (j k : ℕ) → eqb j 0 ≡ b → cond b Ended (More j) ≡ More k → (0 < k) × (j ≡ k)
 some true j k e h = let z : _≡_ {A = ℕ} 0 1 = cc in absurd (omega (arith, z))

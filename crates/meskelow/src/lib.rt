@@ -3,6 +3,8 @@ ghost use Rattle.triangles.specs.Promise.{PairPromise};
 ghost use Rattle.triangles.specs.Decision.{SaidOf};
 ghost use Rattle.corners.specs.Promise.{CornerPromise};
 ghost use Rattle.layout.specs.Promise.{Checked, Recorded};
+ghost use Rattle.arrival.specs.Calls.{piece};
+ghost use Rattle.arrival.specs.Promise.{CallPromise, EndPromise};
 ghost use Rattle.filing.specs.Given.{givenOf};
 ghost use Rattle.filing.specs.Promise.{WritePromise};
 ghost use Rattle.chart.specs.Promise.{ShowPromise};
@@ -46,6 +48,27 @@ pub extern "C" fn meskelow_recording(file: &[u8], k: usize) -> layout::Recording
     ensures { λ r. ⌜ Recorded (now (file .entry)) k r ⌝ }
 {
     recordings::recording(file, k)
+}
+
+// A piece of a file that arrives, by the state so far: the state behind it, with its bytes in the buffer, or a refusal's number with the state and the buffer as they were.
+#[no_mangle]
+pub extern "C" fn meskelow_piece(
+    arrived: u32,
+    ended: u32,
+    bytes: &[u8],
+    buffer: &mut [u8],
+) -> arrival::Arrival
+    ensures { λ r. ⌜ CallPromise (record { arrived = arrived; ended = ended }) (piece (now (bytes .entry))) (now (buffer .entry)) r (now (buffer .exit)) ⌝ }
+{
+    arriving::piece(arrival::State { arrived, ended }, bytes, buffer)
+}
+
+// The end of a file that arrived: what is said of the file, and the state in which the end was said, or a refusal's number with the state as it was.
+#[no_mangle]
+pub extern "C" fn meskelow_end(arrived: u32, ended: u32, buffer: &[u8]) -> arrival::Arrival
+    ensures { λ r. ⌜ EndPromise (record { arrived = arrived; ended = ended }) (now (buffer .entry)) r ⌝ }
+{
+    arriving::end(arrival::State { arrived, ended }, buffer)
 }
 
 // Lists of ids, counts, sets and last bytes and the triangles' numbers: the length of their file, with the file at the front of the room, or a refusal's number with zeros, with the room as it was.

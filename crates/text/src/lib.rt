@@ -1,7 +1,7 @@
 // Decimal numbers and bytes in a lent room, measured before they are put.
 ghost use mathlib.Core.Path.{_≡_};
 ghost use Prim.Native.Nat.{_+_, _%_, _≤_, _<_};
-ghost use lib.ListN.{length};
+ghost use lib.ListN.{length, take};
 ghost use Rattle.text.specs.Decimal.{digit as digitOf, decimal};
 ghost use Rattle.text.specs.Room.{Measured, Put};
 ghost use Rattle.text.specs.Code.{digits};
@@ -111,4 +111,11 @@ pub fn put_bytes(room: &mut [u8], at: usize, bytes: &[u8]) -> usize
         return at;
     }
     copy(room, at, bytes)
+}
+
+// The first n bytes; all, where there are no more.
+pub fn front(bytes: &[u8], n: usize) -> &[u8]
+    ensures { λ r. ⌜ now r ≡ take n (now (bytes .entry)) ⌝ }
+{
+    if n < bytes.len() { &bytes[0..n] } else { bytes }
 }

@@ -1,4 +1,4 @@
--- What is said of a file stands whole at the front of a room of 256,546 bytes, and turns on the first 65,537 bytes of the input. Assumes nothing.
+-- What is said of a file stands whole at the front of a room of 256,546 bytes, and is its line where the file is refused. Assumes nothing.
 use Prim.Native.Nat.{ℕ, _+_, _<_, _≤_}
 use mathlib.Core.Path.{_≡_, refl, sym, ap, subst, _∙_}
 use mathlib.Core.Bool.{Bool, true, false}
@@ -7,16 +7,12 @@ use native.Mathlib.Omega.{arith}
 use lib.Dec.{eqb, ltb}
 use borrow.Author.Tests.{eqb-true, eqb-false, lt-ltb, le-ltb, ltb-true, ltb-false}
 use lib.ListN.{length, length-append}
-use Rattle.text.specs.Decimal.{decimal}
 use Rattle.text.specs.Room.{laid, Put}
-use Rattle.text.proofs.Laws.{width-most}
 use Rattle.text.specs.declared.Written.{Written}
 use Rattle.text.proofs.Room.{put-front, put-two, put-as}
-use Rattle.layout.specs.declared.Verdict.{Verdict}
 use Rattle.layout.specs.Parts.{countOf}
 use Rattle.layout.specs.Verdict.{numberAt, verdict}
 use Rattle.layout.proofs.Returned.{is-good, has-layout, file-first, not-refused}
-use Rattle.layout.proofs.Fronts.{first-bytes}
 use Rattle.listing.specs.Words.{feed, refusedLine}
 use Rattle.chart.specs.Recorded.{Has, numberWith, recordingText}
 use Rattle.chart.specs.Showing.{noSuchId}
@@ -24,12 +20,9 @@ use Rattle.chart.specs.Promise.{ShowPromise}
 use Rattle.chart.proofs.Recorded.{ids-numbered}
 use Rattle.chart.proofs.Widest.{always-enough}
 use Rattle.chart.proofs.Returned.{by-file, by-id, past-id, in-whole, show-returned}
-use Rattle.input.specs.Answer.{AtFront, FirstBytes}
+use Rattle.wording.proofs.Lines.{refused-short}
+use Rattle.input.specs.Answer.{AtFront, ByRefusal}
 use Rattle.wkt.specs.Answer.{textOrLine, outputOf, Outputs}
-
-pub first-of-text : (id : ℕ) → FirstBytes (outputOf id)
-unfolding outputOf
-first-of-text id most enough input = first-bytes (List ℕ) refusedLine (textOrLine id) most enough input
 
 -- ---- the three outputs
 module _ (id : ℕ) (file : List ℕ) where
@@ -45,6 +38,9 @@ module _ (id : ℕ) (file : List ℕ) where
   unfolding outputOf textOrLine
   text-is z h = not-refused file refusedLine (textOrLine id file) z ∙ rw (lt-ltb (numberWith file id) (countOf file) h) refl
 
+pub line-of-refused : (id : ℕ) → ByRefusal refusedLine (outputOf id)
+line-of-refused id file h = refused-is id file h
+
 pub outputs : Outputs
 outputs id file = record {
   text = λ good k h. let only = ids-numbered file id .only good k h in let there = ids-numbered file id .there .1 (k, h) in text-is id file (is-good file good) there ∙ ap (λ m. recordingText file m ++ feed) (sym only);
@@ -56,13 +52,6 @@ outputs id file = record {
     at-least true e none = absurd (none (ids-numbered file id .there .0 (ltb-true (numberWith file id) (countOf file) e)))
     at-least false e none = ltb-false (numberWith file id) (countOf file) e
 
--- ---- the line of a refusal is short
-line-length : (v : Verdict) → v .number < 4294967296 → v .place < 4294967296 → length (refusedLine v) ≤ 33
-unfolding refusedLine
-line-length v h k =
-    let e : length (refusedLine v) ≡ 13 + length (decimal (v .number)) + length (decimal (v .place)) = simp length-append (omega arith) in
-    omega (arith, e, width-most 9 (v .number) (omega (arith, h)), width-most 9 (v .place) (omega (arith, k)))
-
 -- ---- what stands at the front of the room
 module _ (id : ℕ) (file room : List ℕ) (large : 256546 ≤ length room) {a : Written} {mid : List ℕ} (promised : ShowPromise file id room a mid) where
   -- the recording's text is no longer than the room, less the line feed
@@ -73,7 +62,7 @@ module _ (id : ℕ) (file room : List ℕ) (large : 256546 ≤ length room) {a :
   line-at-front refused small near {after} {n} put =
       let same : mid ≡ room = show-returned file id room a mid promised .zeros refused .1 in
       let line : refusedLine (numberAt (a .number) (a .place)) ≡ outputOf id file = go (eqb (verdict file .number) 0) (ltb (numberWith file id) (countOf file)) refl refl in
-      let short = line-length (numberAt (a .number) (a .place)) small near in
+      let short = refused-short (a .number) (a .place) small near in
       let long = ap length line in
       record { put = subst (λ r. Put r 0 (outputOf id file) after n) same (put-as line put); fits = omega (arith, short, long, large) }
     where

@@ -72,7 +72,7 @@ pub fn id_of(word: &[u8]) -> Id
     let id = n as u32;
     let mut digits = [0u8; 10];
     let k = text::put_decimal(&mut digits, 0, id);
-    if same(input::front(&digits, k), word) {
+    if same(text::front(&digits, k), word) {
         return Id { there: true, id };
     }
     no_id()

@@ -1,10 +1,11 @@
 //! Time a pair and time a byte, the library and the second program in turn over the same input.
 //! A pair is given by itself, for an answer or for a corner, or is one of a file's whose leaks are listed; a
-//! byte is one of a file's that is judged or written, or of a well-known text's.
+//! byte is one of a file's that is judged or written or arrives in pieces, or of a well-known text's.
 
 use std::process::ExitCode;
 use std::time::Instant;
 
+use second::arrival;
 use second::corners::{self, Corner};
 use second::decision::decide;
 use second::footprint::{self, Entry, Verdict, MOST_BYTES};
@@ -12,6 +13,7 @@ use second::leaks::{self, List};
 use second::library;
 use second::triangles;
 use second::wkt::wkt;
+use second::workloads::arrivals::{arrivals, Arrivals, Taker, ARRIVALS};
 use second::workloads::texts::{night, Night, TEXTS};
 use second::workloads::tracks::{file_of_tracks, pairs_of_tracks, DIAGONALS, LEAKS, MOST_TRACKS};
 use second::workloads::{fold, fold_corner, fold_list, fold_verdict, fold_written};
@@ -25,6 +27,9 @@ const ROUNDS: usize = 600;
 const JUDGEMENTS: usize = 4;
 /// Fewer, because a list takes a thousand times as long as a round of the others.
 const ROUNDS_OF_LISTS: usize = 12;
+
+const BY_LIBRARY: Taker = Taker { piece: library::piece, end: library::end };
+const BY_SECOND: Taker = Taker { piece: arrival::piece, end: arrival::end };
 
 fn main() -> ExitCode {
     println!(
@@ -80,6 +85,14 @@ fn main() -> ExitCode {
             return ExitCode::FAILURE;
         }
         measure_texts(name, &night);
+    }
+    for name in ARRIVALS {
+        let arrivals = arrivals(name).expect("every named workload exists");
+        if arrivals.everything(BY_LIBRARY) != arrivals.everything(BY_SECOND) {
+            println!("{name}: the two programs answer differently");
+            return ExitCode::FAILURE;
+        }
+        measure_arrivals(name, &arrivals);
     }
     ExitCode::SUCCESS
 }
@@ -195,6 +208,11 @@ fn measure_texts(name: &str, night: &Night) {
     let bytes = night.bytes(wkt);
     let times = in_turn(ROUNDS, || night.time(bytes, library::wkt), || night.time(bytes, wkt));
     print_row(name, bytes.to_string(), 3, times);
+}
+
+fn measure_arrivals(name: &str, arrivals: &Arrivals) {
+    let times = in_turn(ROUNDS, || arrivals.time(BY_LIBRARY), || arrivals.time(BY_SECOND));
+    print_row(name, arrivals.bytes().to_string(), 3, times);
 }
 
 fn percent(part: usize, whole: usize) -> String {

@@ -2,12 +2,14 @@
 
 use std::process::ExitCode;
 
+use second::arrival;
 use second::corners::{self, Corner};
 use second::footprint::{judge, Verdict, MOST_BYTES};
 use second::leaks::{leaks, List};
 use second::library;
 use second::triangles;
 use second::wkt::{wkt, MOST_TEXT};
+use second::workloads::arrivals::{arrivals, Arrivals, Taker};
 use second::workloads::texts::{night, Night, Wkt};
 use second::workloads::tracks::{file_of_tracks, MOST_TRACKS};
 use second::workloads::{fold, fold_corner, fold_list, fold_verdict, fold_written, FILE, WRITE};
@@ -27,7 +29,7 @@ fn main() -> ExitCode {
             eprintln!(
                 "workloads: random, strips, far, corner-random, corner-strips, file, write, wkt, wkt-night,"
             );
-            eprintln!("           leaks, diagonals, crowded-TIMES");
+            eprintln!("           arrival-LENGTH, leaks, diagonals, crowded-TIMES");
             ExitCode::from(2)
         }
     }
@@ -48,6 +50,9 @@ fn checksum() -> Option<u64> {
     }
     if let Some(night) = night(workload) {
         return texts(side, &night, count * rounds);
+    }
+    if let Some(arrivals) = arrivals(workload) {
+        return pieces(side, &arrivals, count * rounds);
     }
     if let Some(file) = file_of_tracks(workload, count.min(MOST_TRACKS)) {
         return lists(side, &file, rounds);
@@ -98,6 +103,18 @@ fn texts(side: &str, night: &Night, count: usize) -> Option<u64> {
     let mut room = vec![0; MOST_TEXT];
     let sum = (0..count).fold(0, |sum, _| night.round(sum, wkt, &mut room));
     Some(room.iter().fold(sum, |sum, byte| sum.rotate_left(7) ^ u64::from(*byte)))
+}
+
+/// Of one file again and again, into the same buffer, which is looked at itself once.
+fn pieces(side: &str, arrivals: &Arrivals, count: usize) -> Option<u64> {
+    let taker = match side {
+        "library" => Taker { piece: library::piece, end: library::end },
+        "second" => Taker { piece: arrival::piece, end: arrival::end },
+        _ => return None,
+    };
+    let mut buffer = vec![0; MOST_BYTES];
+    let sum = (0..count).fold(0, |sum, _| arrivals.round(sum, taker, &mut buffer));
+    Some(buffer.iter().fold(sum, |sum, byte| sum.rotate_left(7) ^ u64::from(*byte)))
 }
 
 /// Of one file again and again. The last list is looked at itself, once, and its tested pairs are printed.

@@ -11,7 +11,6 @@ use mir.Val.{toZ, ofZ}
 use mir.Facts.{toZ-ofZ, fits-natAbs, sfits-toZ, fits-ofZ}
 use borrow.Author.Needs.{needs}
 use borrow.Author.Tests.{ltb-true, eq-eqb, ne-eqb}
-use Rattle.input.specs.declared.Piece.{Piece}
 use Rattle.input.specs.declared.Piece.the-variants.{Failed, Ended, More}
 use Rattle.input.specs.Reading.{came, pieceOf}
 use Rattle.input.proofs.piece_of.Statement.{statement}

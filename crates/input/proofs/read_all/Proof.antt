@@ -1,16 +1,20 @@
--- Each turn brings more, or it is the last.
-use Prim.Native.Nat.{ℕ, _<_, _≤_, _-_}
-use mathlib.Core.Path.{_≡_, sym, subst, _∙_}
+-- Each turn's bytes are a piece of the run so far, and they are some, so that the count grows; or the turn is the last.
+use Prim.Native.Nat.{ℕ, _+_, _<_, _≤_, _-_, min}
+use mathlib.Core.Path.{_≡_, sym, ap, subst, _∙_}
+use mathlib.Core.Bool.{false≢true}
 use mathlib.Core.Logic.{inl, inr}
 use mathlib.Core.List.{[], _∷_}
 use native.Mathlib.Omega.{arith}
-use lib.ListN.{length}
+use lib.ListN.{length, take}
+use lib.Seq.{length-take-le}
 use types.Run.{OneOf}
 use denote.Enum.Declared.{tagOf}
 use Rattle.input.proofs.Piece.{the-type}
 use borrow.Author.Needs.{needs}
+use Rattle.arrival.specs.Whole.{SoFar}
+use Rattle.arrival.proofs.Further.{none-so-far, same-size, counted-on, one-more}
 use Rattle.input.specs.declared.Piece.{Piece}
-use Rattle.input.specs.declared.Piece.the-variants.{More}
+use Rattle.input.specs.declared.Piece.the-variants.{Failed, More}
 use Rattle.input.proofs.Within.{more-within}
 use Rattle.input.specs.Answer.{Took}
 use Rattle.input.proofs.read_all.Statement.{statement}
@@ -29,26 +33,25 @@ not-more {t} {k} e o = two (subst (λ p. OneOf (0 ∷ 1 ∷ []) (tagOf the-type 
     two (inr h) = omega (arith, h)
 
 abbrev Inv-loop : tie.InvT-loop
-Inv-loop fd space₀ n₀ last₀ space n last = (n ≤ length space) × (length space ≡ length space₀)
+Inv-loop fd buffer₀ arrived₀ last₀ part₀ buffer arrived last part = SoFar buffer₀ arrived buffer × (length part ≡ 65536) × (arrived ≤ 65537)
 
 abbrev μ-loop : tie.MeasureT-loop
-μ-loop fd space₀ n₀ last₀ space n last = length space - n
+μ-loop fd buffer₀ arrived₀ last₀ part₀ buffer arrived last part = 65537 - arrived
 
--- the bytes that a turn brought are some, and no more than there is space for
-brought : (c : tie.After-known-told Inv-loop μ-loop) → let k = c .before .last .given .0 .0 in (0 < k) × (k ≤ length (c .before .before .before .before .before .read-some .last .1 .0))
-brought c = took-more (c .before .before .before .before .before .read-some .ensures) (c .before .last .given .1)
+returns : tie.Need-returns Inv-loop μ-loop
+returns c = record { soFar = none-so-far _; size = λ e. absurd (false≢true e); tooMany = λ k e. absurd (failed-not e) }
+  where
+    failed-not : {k : ℕ} → Failed ≡ More k → ⊥
+    failed-not {k} e = let z : _≡_ {A = ℕ} 0 1 = cc in omega (arith, z)
+
+large-buffer-requires : tie.Need-large-buffer-requires Inv-loop μ-loop
+large-buffer-requires c κs = search needs
 
 loop-holds : tie.Need-loop-holds Inv-loop μ-loop
-loop-holds c = search needs
+loop-holds c = (none-so-far _, sym (c .large-buffer .ensures), omega arith)
 
-sub-read-some : tie.Need-sub-read-some Inv-loop μ-loop
-sub-read-some c = search needs
-
-part-read-some-start : tie.Need-part-read-some-start Inv-loop μ-loop
-part-read-some-start c = search needs
-
-part-read-some-end : tie.Need-part-read-some-end Inv-loop μ-loop
-part-read-some-end c = search needs
+slice-aggregate-read-some : tie.Need-slice-aggregate-read-some Inv-loop μ-loop
+slice-aggregate-read-some c = sym (c .before .before .loop .inv .1)
 
 read-some-requires : tie.Need-read-some-requires Inv-loop μ-loop
 read-some-requires c κs = search needs
@@ -57,25 +60,49 @@ enum-known-last : tie.Need-enum-known-last Inv-loop μ-loop
 enum-known-last c = search needs
 
 same-length : tie.Need-same-length Inv-loop μ-loop
-same-length c = search needs
-
-returns : tie.Need-returns Inv-loop μ-loop
-returns c = record { within = search needs; full = λ k e. absurd (not-more e (c .match .keys2)) }
-
-add-n : tie.Need-add-n Inv-loop μ-loop
-add-n c = let h = brought c in omega (arith, h, c .before .before .before .before .before .read-some .kept)
-
-loop-less : tie.Need-loop-less Inv-loop μ-loop
-loop-less c = let h = brought c in omega (arith, h, c .before .before .before .before .before .read-some .kept)
-
-loop-again : tie.Need-loop-again Inv-loop μ-loop
-loop-again c = let h = brought c in omega (arith, h, c .before .before .before .before .before .read-some .kept)
-
-same-length-2 : tie.Need-same-length-2 Inv-loop μ-loop
-same-length-2 c = search needs
+same-length c = same-size (c .before .before .before .before .before .loop .inv .0)
 
 returns-2 : tie.Need-returns-2 Inv-loop μ-loop
-returns-2 c = record { within = search needs; full = λ k e. search needs }
+returns-2 c = record { soFar = c .before .before .before .before .before .loop .inv .0; size = λ _. c .before .before .before .before .before .before .before .if1 .left; tooMany = λ k e. absurd (not-more e (c .match .keys2)) }
+
+slice-aggregate-handed : tie.Need-slice-aggregate-handed Inv-loop μ-loop
+slice-aggregate-handed c = search needs
+
+handed-requires : tie.Need-handed-requires Inv-loop μ-loop
+handed-requires c κs = search needs
+
+-- what a turn brought: some bytes, as many as are handed over
+brought : (c : tie.After-handed Inv-loop μ-loop) → let k = c .before .before .before .before .last .given .0 .0 in (0 < k) × (length (take k (c .before .before .before .before .before .before .before .read-some .last .1 .0)) ≡ k)
+brought c =
+    let k = c .before .before .before .before .last .given .0 .0 in
+    let read = c .before .before .before .before .before .before .before .read-some in
+    let h = took-more (read .ensures) (c .before .before .before .before .last .given .1) in
+    (h .0, length-take-le k (read .last .1 .0) (h .1))
+
+-- so it is counted
+grown : (c : tie.After-handed Inv-loop μ-loop) → c .handed .result .arrived ≡ min (c .before .before .before .before .before .before .before .before .before .before .loop .arrived + c .before .before .before .before .last .given .0 .0) 65537
+grown c =
+    let l = c .before .before .before .before .before .before .before .before .before .before .loop in
+    counted-on (c .before .before .before .before .before .before .before .before .before .before .before .before .if1 .left) (l .inv .0) (c .handed .ensures) ∙ ap (λ n. min (l .arrived + n) 65537) (brought c .1)
+
+loop-less : tie.Need-loop-less Inv-loop μ-loop
+loop-less c =
+    let b = brought (c .before .before) .0 in
+    let g = grown (c .before .before) in
+    omega (arith, b, g, c .before .before .before .before .before .before .before .before .before .before .before .loop-test .taken)
+
+loop-again : tie.Need-loop-again Inv-loop μ-loop
+loop-again c =
+    let l = c .before .before .before .before .before .before .before .before .before .before .before .before .loop in
+    let g = grown (c .before .before) in
+    let kept = c .before .before .before .before .before .before .before .before .before .read-some .kept in
+    (one-more (c .before .before .before .before .before .before .before .before .before .before .before .before .before .before .if1 .left) (l .inv .0) (c .before .before .handed .ensures), omega (arith, kept, l .inv .1), omega (arith, g))
+
+same-length-2 : tie.Need-same-length-2 Inv-loop μ-loop
+same-length-2 c = same-size (c .before .loop .inv .0)
+
+returns-3 : tie.Need-returns-3 Inv-loop μ-loop
+returns-3 c = record { soFar = c .before .loop .inv .0; size = λ _. c .before .before .before .if1 .left; tooMany = λ k e. omega arith }
 
 pub read-all-spec : {M : Type 1} → statement M
 read-all-spec =
@@ -83,16 +110,17 @@ read-all-spec =
     (tie.spec
     Inv-loop
     μ-loop
+    returns
+    large-buffer-requires
     loop-holds
-    sub-read-some
-    part-read-some-start
-    part-read-some-end
+    slice-aggregate-read-some
     read-some-requires
     enum-known-last
     same-length
-    returns
-    add-n
+    returns-2
+    slice-aggregate-handed
+    handed-requires
     loop-less
     loop-again
     same-length-2
-    returns-2)
+    returns-3)

@@ -4,8 +4,8 @@ use native.Mathlib.Nat.{sub-zero}
 use borrow.Author.Needs.{needs}
 use denote.Ref.{now}
 use lib.Seq.{take-all}
-use Rattle.input.proofs.front.Statement.{statement}
-use Rattle.input.proofs.front.Tie as tie
+use Rattle.text.proofs.front.Statement.{statement}
+use Rattle.text.proofs.front.Tie as tie
 
 sub-result : tie.Need-sub-result
 sub-result c = search needs

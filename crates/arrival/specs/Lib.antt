@@ -1,0 +1,5 @@
+pub mod Calls
+pub mod Runs
+pub mod Whole
+pub mod Promise
+pub mod Worked
