@@ -1,4 +1,6 @@
 // A file that arrives in pieces: a piece goes into the lent buffer behind what has arrived, and at the end the file is judged.
+#![tactic(auto)]
+
 ghost use Rattle.std.specs.Prelude.{◌≡◌, ◌+◌, length};
 ghost use Rattle.arrival.specs.Calls.{piece, refusal_of, state_again, counted, put_at, judged as judged_of};
 ghost use Rattle.arrival.specs.Promise.{CallPromise, EndPromise};

@@ -1,4 +1,6 @@
 // Boxes in a flat table, four values each: read and put, the box around several of them, and the next that shares a point with a box.
+#![tactic(auto)]
+
 ghost use Rattle.std.specs.Prelude.{◌≡◌, ◌+◌, ◌-◌, ◌*◌, ◌/◌, ◌≤◌, ◌<◌, length};
 ghost use Rattle.boxed.specs.Tables.{lesser as lesser_of, no_box, box_from, box_in, table_with, box_over, next_near};
 

@@ -1,9 +1,11 @@
 // Upright boxes around triangles, and whether two of them share a point.
+#![tactic(auto)]
+
 ghost use Rattle.std.specs.Prelude.{◌≡◌};
 ghost use Rattle.boxes.specs.Boxes.{lesser as lesser_of, greater as greater_of, box_of, around as around_both, share_point};
 
 // An upright box: its ends on both axes, which belong to it.
-#[derive(Drop)]
+#[derive(Clone, Copy)]
 pub struct Box {
     pub left: f64,
     pub right: f64,

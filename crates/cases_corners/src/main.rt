@@ -1,5 +1,6 @@
 // Asks for corners by the lines of its standard input and writes what is told of each. A line of the input has the place and then the values, all as hexadecimal
 // digits, of the values' bits, with a space before each value. A line of the output has number, kind, which, edge and line, then t, x and y by their bits.
+#![tactic(auto)]
 
 fn write_number(n: u32) {
     io::print_decimal(1, n as u64);

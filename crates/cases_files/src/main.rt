@@ -1,6 +1,7 @@
 // Runs the reader on the files of its standard input and writes what it answers. A line of the input has a recording's number, sixteen hexadecimal digits, and behind a space the file's
 // bytes, two digits each. A line of the output has number and place of the check, then of the recording number, place, id, first, count, set and last, eight digits each, then the part's
 // bytes, and each of its coordinates by the sixteen digits of its double.
+#![tactic(auto)]
 
 fn write_number(n: u32) {
     io::print_hex(1, n as u64, 8);

@@ -1,5 +1,6 @@
 // Runs the writer of the leak list on the files of its standard input and writes what it answers. A line of the input has the room's length, four hexadecimal digits, and behind a space the file's bytes, two digits
 // each. Every byte of the room is a point before the call. A line of the output has number, place, length, leaks, touching, tested and formerly held back, eight digits each, then the room's bytes.
+#![tactic(auto)]
 
 fn write_number(n: u32) {
     io::print_hex(1, n as u64, 8);

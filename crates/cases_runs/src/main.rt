@@ -8,6 +8,8 @@
 //   e LENGTH           an end
 //   b PLACE COUNT      the memory's bytes from a place on are written
 // A line of the output has number, place, arrived and ended behind a piece and an end, and the state is then the one that was answered; or the bytes that were asked for.
+#![tactic(auto)]
+
 ghost use Rattle.std.specs.Prelude.{length};
 
 use arrival::{Arrival, State};

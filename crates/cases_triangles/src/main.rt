@@ -1,6 +1,7 @@
 // Runs the triangle rules on the pairs of its standard input and writes what they answer. A line of the input has the room's length and then the
 // values, all as hexadecimal digits of their bits, with a space before each value. A line of the output has number, n, area and nine
 // flags, then what is decided of the values, its number, kind and area, and then the room as it is afterwards; value k of the room is lent as 1000 + k.
+#![tactic(auto)]
 
 // The room as it is lent.
 fn lent() -> [f64; 32] {

@@ -1,5 +1,7 @@
 // Runs the writer of footprint files on the lists of its standard input and writes what it answers. A line of the input has the room's length, four hexadecimal digits, and behind a space each the ids, the counts, the sets, the last bytes and the
 // numbers as bytes, two digits each, the lowest byte of a number first; an empty list is an empty word. Every byte of the room is a point before the call. A line of the output has number, place and length, eight digits each, then the room's bytes.
+#![tactic(auto)]
+
 ghost use Rattle.std.specs.Prelude.{◌≡◌, ◌+◌, ◌*◌, ◌≤◌, max, length};
 
 fn write_number(n: u64) {

@@ -1,11 +1,13 @@
 // A corner of the ring asked for by its place: its rules, the laws that hold of them, and what is told of it.
+#![tactic(auto)]
+
 ghost use Rattle.std.specs.Prelude.{◌≡◌};
 ghost use Rattle.corners.specs.Corners.{plain as plain_by, told_by, told, no_corner};
 
 // What is told of a corner: number 0, its kind (0 a vertex of U, 1 a corner of V, 2 a crossing), which vertex or corner it is, or a crossing's edge, line and t, and
 // where it stands. What a kind does not have is zero; beside a refusal's number all is.
 #[repr(C)]
-#[derive(Drop)]
+#[derive(Clone, Copy)]
 pub struct Told {
     pub number: u32,
     pub kind: u32,

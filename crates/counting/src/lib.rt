@@ -1,4 +1,6 @@
 // What is kept of the triangle pairs of a test and a training recording, and what it makes of the two: whether they leak, by the edition of the test recording, and whether they only touch.
+#![tactic(auto)]
+
 ghost use Rattle.std.specs.Prelude.{◌≡◌, ◌≤◌};
 ghost use Rattle.floats.specs.Lists.{once};
 ghost use Rattle.listing.specs.Pairs.{leak_by_first, leak_by_second, leak as leak_by, only_touch};

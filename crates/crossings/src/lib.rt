@@ -1,9 +1,11 @@
 // The fraction and the position of a crossing, between two ends of an edge.
+#![tactic(auto)]
+
 ghost use Rattle.std.specs.Prelude.{◌≡◌};
 ghost use Rattle.crossings.specs.Crossing.{crossed_on};
 
 // A crossing: t, the position by it, and whether t's denominator is finite.
-#[derive(Drop)]
+#[derive(Clone, Copy)]
 pub struct Crossed {
     pub t: f64,
     pub x: f64,

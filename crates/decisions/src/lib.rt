@@ -1,4 +1,6 @@
 // What is decided of a pair of triangles: from its answer, which kind of pair it is, and what is said of it.
+#![tactic(auto)]
+
 ghost use Rattle.std.specs.Prelude.{◌≡◌};
 ghost use Rattle.triangles.specs.Decision.{decided, overlaps as overlaps_by, touches as touches_by, is_refused, with_area, said};
 

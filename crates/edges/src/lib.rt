@@ -1,5 +1,7 @@
 // The order in which an edge of U meets V's lines. Edges are taken from their lower vertex: p and s are its parameters and signs, q the parameters of
 // the higher vertex.
+#![tactic(auto)]
+
 ghost use Rattle.std.specs.Prelude.{◌≡◌, cond, ◌<◌};
 ghost use Rattle.std.specs.Float.Ieee.{le};
 ghost use Rattle.floats.specs.Finite.{nought};
@@ -8,14 +10,14 @@ ghost use Rattle.edges.specs.Code.{tested, seen_first, in_order, around_by, thre
 
 // By V's corners, as a digit of the table's kind: whether the corner's lower line is met before its upper one, false where the edge does not cross both. And
 // whether all pair tests that were computed are finite.
-#[derive(Drop)]
+#[derive(Clone, Copy)]
 pub struct Order {
     pub before: u16,
     pub fine: bool,
 }
 
 // What a pair test says: the lower of its lines is met first; and its D is finite.
-#[derive(Drop)]
+#[derive(Clone, Copy)]
 pub struct Test {
     first: bool,
     fine: bool,

@@ -1,4 +1,6 @@
 // Footprint files from lists: the lists are judged whole before the first byte is put, and the file is put whole.
+#![tactic(auto)]
+
 ghost use Rattle.std.specs.Prelude.{◌≡◌, [], ◌+◌, ◌*◌, ◌≤◌, length};
 ghost use Rattle.text.specs.Room.{Put};
 ghost use Rattle.filing.specs.Given.{given_of, sum_of};

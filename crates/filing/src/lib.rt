@@ -1,1 +1,2 @@
 // From lists to a footprint file: what is written, and what is refused.
+#![tactic(auto)]

@@ -1,4 +1,6 @@
 // Positions, finite values and the cross, the leaves of every formula.
+#![tactic(auto)]
+
 ghost use Rattle.std.specs.Prelude.{◌≡◌, cond};
 ghost use Rattle.std.specs.Float.Ieee.{neg};
 ghost use Rattle.floats.specs.Finite.{finite};
@@ -6,7 +8,7 @@ ghost use Rattle.floats.specs.Numbers.{cross, cross_from};
 ghost use Rattle.floats.specs.Way.{f64, given, at};
 
 // Where a vertex of U, a corner of V or a corner of the ring stands.
-#[derive(Drop)]
+#[derive(Clone, Copy)]
 pub struct Position {
     pub x: f64,
     pub y: f64,

@@ -1,4 +1,6 @@
 // The check of a footprint file: whatever else is asked of a file asks it first.
+#![tactic(auto)]
+
 mod stages;
 
 ghost use Rattle.layout.specs.Promise.{Checked};

@@ -1,4 +1,6 @@
 // What is told before the orders along edges: which pairs are far, the rows of the refusals from the coordinates to the parameters, and the pairs without a ring.
+#![tactic(auto)]
+
 ghost use Rattle.std.specs.Prelude.{◌≡◌};
 ghost use Rattle.floats.specs.Lists.{all};
 ghost use Rattle.floats.specs.Finite.{finite};

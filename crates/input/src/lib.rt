@@ -1,4 +1,6 @@
 // The reading of a file as it arrives: what one read's answer says, all reads together, each one's bytes a piece of the file, and whether what arrived may be answered.
+#![tactic(auto)]
+
 ghost use Rattle.std.specs.Prelude.{◌≡◌, min, length, take};
 ghost use Rattle.arrival.specs.Calls.{piece};
 ghost use Rattle.arrival.specs.Promise.{CallPromise};
@@ -14,7 +16,7 @@ const SIZE: usize = 65536;
 const TOO_MANY: u32 = 65537;
 
 // What one read's answer says.
-#[derive(Drop)]
+#[derive(Clone, Copy)]
 pub enum Piece {
     Failed,
     Ended,
@@ -22,14 +24,14 @@ pub enum Piece {
 }
 
 // How many bytes have arrived, as they are counted, and what the last read said.
-#[derive(Drop)]
+#[derive(Clone, Copy)]
 pub struct Got {
     pub arrived: u32,
     pub last: Piece,
 }
 
 // What arrived of an input, and how long the text is that is to be said of it.
-#[derive(Drop)]
+#[derive(Clone, Copy)]
 pub struct Reply {
     pub got: Got,
     pub n: usize,

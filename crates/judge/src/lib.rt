@@ -1,4 +1,6 @@
 // The rules that judge the plain numbers of an entry and of a triangle. They know nothing of bytes: crate `footprint` asks them of what it reads in a file.
+#![tactic(auto)]
+
 ghost use Rattle.std.specs.Prelude.{◌≡◌, ◌≤◌, [], ◌∷◌, pos};
 ghost use Rattle.layout.specs.Bytes.{signed as signed_of};
 ghost use Rattle.layout.specs.Parts.{triangle_of};

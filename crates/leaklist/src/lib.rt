@@ -1,4 +1,6 @@
 // The writer of the leak list. A file is judged once; each of its triangles is prepared once, with its box, and so is the box of each recording; each pair of recordings is counted once; and the room is written to only when the list is known to fit.
+#![tactic(auto)]
+
 mod areas;
 mod found;
 mod framed;

@@ -1,5 +1,7 @@
 // Takes a footprint file as it arrives on standard input, to its end or until more has come than a file may have, and writes the leak list, or the line that says how the file is refused.
 // Where a read fails the file has not ended: then nothing is written but a line on standard error.
+#![tactic(auto)]
+
 ghost use Rattle.std.specs.Prelude.{◌≡◌, take};
 ghost use Rattle.listing.specs.Words.{refused_line};
 ghost use Rattle.listing.specs.Listing.{output_of};

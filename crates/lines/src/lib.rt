@@ -1,4 +1,6 @@
 // V's lines, corners and edges by number; a vertex's parameters and their signs.
+#![tactic(auto)]
+
 ghost use Rattle.std.specs.Prelude.{◌≡◌, ◌<◌};
 ghost use Rattle.floats.specs.Way.{f64, given, at};
 ghost use Rattle.lines.specs.Lines.{corner_on, line_of, end_of};
@@ -14,7 +16,7 @@ const LINES: [[usize; 2]; 3] = [[0, 1], [1, 2], [0, 2]];
 const ENDS: [[usize; 2]; 3] = [[0, 1], [1, 2], [2, 0]];
 
 // The three parameters of a vertex of U, carried together: line 0 is x, line 1 is y, line 2 is w.
-#[derive(Drop)]
+#[derive(Clone, Copy)]
 pub struct Params {
     pub x: f64,
     pub y: f64,

@@ -1,8 +1,9 @@
 // The leak list: its rules, the laws that hold of them, what is kept of two recordings and what is answered.
+#![tactic(auto)]
 
 // What is kept of the triangle pairs of a test and a training recording: how many overlap, how many touch, how many were given to the triangle rules, whether
 // one was refused, and the sum of the areas of those that overlap, added in the order tested.
-#[derive(Drop)]
+#[derive(Clone, Copy)]
 pub struct Tally {
     pub overlapping: u32,
     pub touching: u32,
@@ -12,7 +13,7 @@ pub struct Tally {
 }
 
 // What is counted of a file's test recordings, each with all training recordings: how many leaks there are, how many pairs of recordings only touch, and how many triangle pairs were given to the triangle rules.
-#[derive(Drop)]
+#[derive(Clone, Copy)]
 pub struct Counts {
     pub leaks: u32,
     pub touching: u32,
@@ -22,7 +23,7 @@ pub struct Counts {
 // What is said of a list: number 0 and place 0, the list's length in bytes, how many leaks it has, how many pairs of recordings only touch, how many
 // triangle pairs were given to the triangle rules, and how many recordings were formerly held back; or a refusal's number and place with zeros.
 #[repr(C)]
-#[derive(Drop)]
+#[derive(Clone, Copy)]
 pub struct Listed {
     pub number: u32,
     pub place: u32,

@@ -1,4 +1,6 @@
 // The functions that programs in other languages call; include/meskelow.h declares them.
+#![tactic(auto)]
+
 ghost use Rattle.triangles.specs.Promise.{PairPromise};
 ghost use Rattle.triangles.specs.Decision.{SaidOf};
 ghost use Rattle.corners.specs.Promise.{CornerPromise};

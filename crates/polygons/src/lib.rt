@@ -1,4 +1,6 @@
 // The polygon of a triangle in a room, from the 32 bits in which each of its six numbers is stored: put whole, or not at all.
+#![tactic(auto)]
+
 ghost use Rattle.std.specs.Prelude.{◌≡◌, [], ◌∷◌, ◌++◌, ◌+◌, ◌≤◌, ◌<◌, leb, nat_abs, length};
 ghost use Rattle.text.specs.Code.{digits};
 ghost use Rattle.text.specs.Decimal.{decimal};

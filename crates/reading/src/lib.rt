@@ -1,4 +1,6 @@
 // Reading: what the bytes at a place stand for. A byte beyond the end counts as 0, so there is an answer at every place, and nothing is refused here.
+#![tactic(auto)]
+
 ghost use Rattle.std.specs.Prelude.{◌≡◌, ◌<◌};
 ghost use Rattle.layout.specs.Bytes.{two as two_of, four as four_of, signed as signed_of, byte_at, u32_at, i32_at};
 ghost use Rattle.layout.specs.Parts.{entry_from};

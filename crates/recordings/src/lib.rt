@@ -1,4 +1,6 @@
 // The recordings of a footprint file and their parts.
+#![tactic(auto)]
+
 ghost use Rattle.std.specs.Prelude.{◌≡◌, ◌+◌, ◌*◌};
 ghost use Rattle.layout.specs.Verdict.{number_at};
 ghost use Rattle.layout.specs.Recordings.{no_recording};

@@ -1,4 +1,6 @@
 // The refusals of lists that are to be written as a footprint file, in their order. The rules of an entry and of a triangle are those that a file is read by, but that nothing is written with the set that is retired.
+#![tactic(auto)]
+
 ghost use Rattle.std.specs.Prelude.{◌≡◌, not, ◌||◌, [], ◌+◌, ◌*◌, ◌/◌, ◌<◌, eqb, ltb, length, get_or};
 ghost use Rattle.layout.specs.Rules.{is_seen};
 ghost use Rattle.filing.specs.Given.{given_of, entry_by, sum_of};

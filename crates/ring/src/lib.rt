@@ -1,1 +1,2 @@
 // Flags and ring of two triangles: definitions and laws.
+#![tactic(auto)]

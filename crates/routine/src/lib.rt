@@ -1,4 +1,6 @@
 // The routine: from twelve values to the answer of two triangles, with its corners in a lent room; to one of these corners; to what is decided of the pair.
+#![tactic(auto)]
+
 mod spots;
 
 ghost use Rattle.std.specs.Prelude.{◌≡◌, ◌*◌, ◌≤◌, length, take};
@@ -39,7 +41,7 @@ fn write(room: &mut [f64], xy: [f64; 12], n: usize)
 }
 
 // What is found of two triangles: the answer, and its ring's n corners, by place and by position; what is beyond n has no meaning.
-#[derive(Drop)]
+#[derive(Clone, Copy)]
 struct Found {
     answer: triangles::Answer,
     places: [walk::PlaceCode; 6],
@@ -134,7 +136,7 @@ fn settled(
 }
 
 // What every rule starts from: d, e, and the parameters of U0, U1 and U2.
-#[derive(Drop)]
+#[derive(Clone, Copy)]
 struct Start {
     d: f64,
     e: f64,

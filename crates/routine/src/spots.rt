@@ -4,14 +4,14 @@ ghost use Rattle.walk.specs.Code.{place_of_code};
 ghost use Rattle.routine.specs.Code.{position_at, standing, kind_in, cross_spot, edge_in, line_in, spot_from, spot_of, signs_from, spots_to, fine_to, area_by};
 
 // A corner of the ring; and whether the denominator of its t, if it has one, is finite.
-#[derive(Drop)]
+#[derive(Clone, Copy)]
 pub(crate) struct Spot {
     pub(crate) corner: triangles::Corner,
     pub(crate) fine: bool,
 }
 
 // The positions of a ring's corners, and whether all of them are fine.
-#[derive(Drop)]
+#[derive(Clone, Copy)]
 pub(crate) struct Corners {
     pub(crate) xy: [f64; 12],
     pub(crate) fine: bool,

@@ -1,4 +1,6 @@
 // The sets of recordings, by the numbers that they are stored with: which is test, which are training, and which is retired; and the last bytes of their entries: which edition of the leak rule one names, and which may stand beside which set.
+#![tactic(auto)]
+
 ghost use Rattle.std.specs.Prelude.{◌≡◌};
 ghost use Rattle.sets.specs.Sets.{is_test, is_retired, is_training};
 ghost use Rattle.sets.specs.Editions.{is_second, is_wrong_last};

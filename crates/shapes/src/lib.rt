@@ -1,9 +1,11 @@
 // A triangle made ready once for every pair that it stands in.
+#![tactic(auto)]
+
 ghost use Rattle.std.specs.Prelude.{◌≡◌};
 ghost use Rattle.shapes.specs.Shapes.{shape_of};
 
 // A triangle made ready for every pair that it stands in: its vertices, the sides a and b from the first vertex to the second and the third, and their cross.
-#[derive(Drop)]
+#[derive(Clone, Copy)]
 pub struct Shape {
     pub x0: f64,
     pub y0: f64,

@@ -1,4 +1,6 @@
 // A recording's footprint for the chart viewer: the file is judged, the recording found by its id, its text measured whole, and only then put.
+#![tactic(auto)]
+
 ghost use Rattle.std.specs.Prelude.{◌≡◌, [], ◌++◌, map, ◌+◌, ◌*◌, ◌<◌, ◌≤◌, length};
 ghost use Rattle.text.specs.Room.{Measured, Put};
 ghost use Rattle.layout.specs.Parts.{table_place, count_of, triangle_from};

@@ -1,4 +1,6 @@
 // Numbers and table entries stored in a room, the lowest byte first. Each is put whole or not at all.
+#![tactic(auto)]
+
 ghost use Rattle.std.specs.Prelude.{◌≡◌, [], ◌∷◌, ◌++◌, ◌+◌, ◌*◌, ◌%◌, ◌≤◌, leb, pos, length, get_or};
 ghost use Rattle.text.specs.Room.{Put};
 ghost use Rattle.layout.specs.Bytes.{signed};

@@ -1,5 +1,7 @@
 // The table of the signs: from the nine signs of U's three vertices to the lines that U's edges cross and the vertices that are in V. All its numbers are octal, and
 // a digit holds three truth values: 4 stands for the first, 2 for the second, 1 for the third.
+#![tactic(auto)]
+
 ghost use Rattle.std.specs.Prelude.{◌≡◌, [], ◌<◌, get_or};
 ghost use Rattle.table.specs.Table.{digit_of, flags_in, index_of, signs_in, entry_for, number_in, in_v_in, crossed_in};
 

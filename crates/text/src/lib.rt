@@ -1,4 +1,6 @@
 // Decimal numbers and bytes in a lent room, measured before they are put.
+#![tactic(auto)]
+
 ghost use Rattle.std.specs.Prelude.{◌≡◌, ◌+◌, ◌%◌, ◌≤◌, ◌<◌, length, take};
 ghost use Rattle.text.specs.Decimal.{digit as digit_of, decimal};
 ghost use Rattle.text.specs.Room.{Measured, Put};
@@ -6,7 +8,7 @@ ghost use Rattle.text.specs.Code.{digits};
 
 // What is said of something that was to be written to lent room: its length beside number 0 and place 0, or a refusal's number and place with length 0.
 #[repr(C)]
-#[derive(Drop)]
+#[derive(Clone, Copy)]
 pub struct Written {
     pub number: u32,
     pub place: u32,

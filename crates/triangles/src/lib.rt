@@ -1,8 +1,9 @@
 // The answer of two triangles: its rules, the laws that hold of them, and what an answer is.
+#![tactic(auto)]
 
 // What the rules answer: number 0, or a refusal's number with everything else zero; the ring's n corners stand in the lent room.
 #[repr(C)]
-#[derive(Drop)]
+#[derive(Clone, Copy)]
 pub struct Answer {
     pub number: u32,
     pub n: u32,
@@ -14,7 +15,7 @@ pub struct Answer {
 
 // What a corner of the ring is: a vertex of U or a corner of V, the reference, by its number; or a crossing, with U's edge, V's line and the fraction t by which
 // it was placed.
-#[derive(Drop)]
+#[derive(Clone, Copy)]
 pub enum Kind {
     Vertex(u32),
     Reference(u32),
@@ -22,7 +23,7 @@ pub enum Kind {
 }
 
 // A corner of the ring: what it is, and where it stands.
-#[derive(Drop)]
+#[derive(Clone, Copy)]
 pub struct Corner {
     pub kind: Kind,
     pub x: f64,
@@ -30,7 +31,7 @@ pub struct Corner {
 }
 
 // What is decided of two triangles where no corners are asked for: refused with the number, overlapping with the area, touching, or apart.
-#[derive(Drop)]
+#[derive(Clone, Copy)]
 pub enum Decision {
     Refused(u32),
     Overlapping(f64),
@@ -40,7 +41,7 @@ pub enum Decision {
 
 // What is said of a decision: number 0, the pair's kind (0 apart, 1 touching, 2 overlapping) and its area; or a refusal's number with zeros.
 #[repr(C)]
-#[derive(Drop)]
+#[derive(Clone, Copy)]
 pub struct Said {
     pub number: u32,
     pub kind: u32,

@@ -1,16 +1,18 @@
 // Flags and ring of two triangles, from the signs of U's vertices, their entry in the table and the orders along U's edges. Where U's edges are treated at once, a
 // number has an octal digit for each, edge 0's first, and a digit three truth values, as in the table.
+#![tactic(auto)]
+
 ghost use Rattle.std.specs.Prelude.{◌≡◌, ◌<◌, ◌≤◌};
 ghost use Rattle.walk.specs.Code.{at_corner, edges_tell, lower_signs, begun, pushed, line_of_digit, is_on_line, cornered, entering, leaving, along_edge, closing, inside_of, neighbours_of, walk_of, flags_and_ring, beyond_a_line};
 
 // A place of the ring, by number: U's vertices are 0, 1, 2, V's corners 3, 4, 5, and from 6 on each edge of U has three crossings, by line.
-#[derive(Drop)]
+#[derive(Clone, Copy)]
 pub struct PlaceCode {
     pub code: u8,
 }
 
 // The ring's first n places, and the nine flags.
-#[derive(Drop)]
+#[derive(Clone, Copy)]
 pub struct Ring {
     pub places: [PlaceCode; 6],
     pub n: usize,
@@ -21,14 +23,14 @@ pub struct Ring {
 
 // What U's edges tell: which of their crossings lie on V's edges, by line; and their part in the flags of V's corners, by corner: whether an edge crosses the
 // corner's lower line on the plus side of the upper one.
-#[derive(Drop)]
+#[derive(Clone, Copy)]
 struct Edges {
     on: u16,
     beside: u16,
 }
 
 // The ring so far; the line by which V was left and not entered again yet, and the line by which it was entered before it was ever left, 3 where there is none.
-#[derive(Drop)]
+#[derive(Clone, Copy)]
 struct Walk {
     places: [PlaceCode; 6],
     n: usize,

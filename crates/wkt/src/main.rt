@@ -1,5 +1,7 @@
 // Takes a footprint file as it arrives on standard input, to its end or until more has come than a file may have, and writes the well-known text of the recording whose id is its one argument, and a line feed, or the line that says how that is refused.
 // Where a read fails the file has not ended: then nothing is written but a line on standard error. So it is where the argument is no id.
+#![tactic(auto)]
+
 ghost use Rattle.std.specs.Prelude.{◌≡◌, length, take};
 ghost use Rattle.listing.specs.Words.{refused_line};
 ghost use Rattle.input.specs.Answer.{AtFront, said_by, output_for, Replied};

@@ -1,4 +1,6 @@
 // The lines of lists and refusals, each put into a room whole or not at all.
+#![tactic(auto)]
+
 ghost use Rattle.std.specs.Prelude.{◌++◌, ◌+◌, ◌≤◌, length};
 ghost use Rattle.layout.specs.Verdict.{number_at};
 ghost use Rattle.text.specs.Decimal.{decimal};

@@ -1,9 +1,11 @@
 // A word of a command as an id: a number from 0 to 4,294,967,295, in decimal as lists have it, and nothing else.
+#![tactic(auto)]
+
 ghost use Rattle.std.specs.Prelude.{◌≡◌, ◌-◌, ◌≤◌};
 ghost use Rattle.words.specs.Id.{same as same_of, capped, no_id, id_of, asked as asked_of};
 
 // What a word is taken for: the id that it is, or none, and then 0 stands beside it.
-#[derive(Drop)]
+#[derive(Clone, Copy)]
 pub struct Id {
     pub there: bool,
     pub id: u32,

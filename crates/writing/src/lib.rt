@@ -1,4 +1,6 @@
 // The list of leaks that were found, in a room: measured whole, then put whole, or refused.
+#![tactic(auto)]
+
 ghost use Rattle.std.specs.Prelude.{◌≡◌, [], ◌+◌, ◌*◌, ◌≤◌, length};
 ghost use Rattle.layout.specs.Verdict.{number_at};
 ghost use Rattle.text.specs.Room.{Measured, Put};
