@@ -44,6 +44,7 @@ module _ (l : List Float) (g : TwelveFinite l) where
   u_finite v (there (there (there (here e)))) = subst (λ w. finite w ≡ true) (sym e) (at 1 (lit< tt))
   u_finite v (there (there (there (there (here e))))) = subst (λ w. finite w ≡ true) (sym e) (at 3 (lit< tt))
   u_finite v (there (there (there (there (there (here e)))))) = subst (λ w. finite w ≡ true) (sym e) (at 5 (lit< tt))
+  u_finite v (there (there (there (there (there (there x24)))))) = elim x24 [ ]
 
   v_finite : AllFinite (corners_of_v l)
   v_finite v (here e) = subst (λ w. finite w ≡ true) (sym e) (at 6 (lit< tt))
@@ -52,6 +53,7 @@ module _ (l : List Float) (g : TwelveFinite l) where
   v_finite v (there (there (there (here e)))) = subst (λ w. finite w ≡ true) (sym e) (at 7 (lit< tt))
   v_finite v (there (there (there (there (here e))))) = subst (λ w. finite w ≡ true) (sym e) (at 9 (lit< tt))
   v_finite v (there (there (there (there (there (here e)))))) = subst (λ w. finite w ≡ true) (sym e) (at 11 (lit< tt))
+  v_finite v (there (there (there (there (there (there x24)))))) = elim x24 [ ]
 
   boxes : SharedExactlyIf (corners_of_u l) (corners_of_v l)
   boxes = shared_points (corners_of_u l) (corners_of_v l) u_finite v_finite

@@ -55,11 +55,13 @@ module _ (a b c : Float) where
     none_below v (here e) = subst (λ w. lt w least ≡ false) (sym e) (not_below_through a (lesser a b) least fa (lesser-finite a b fa fb) least-finite (lesser_first a b) (lesser_first (lesser a b) c))
     none_below v (there (here e)) = subst (λ w. lt w least ≡ false) (sym e) (not_below_through b (lesser a b) least fb (lesser-finite a b fa fb) least-finite (lesser_second a b) (lesser_first (lesser a b) c))
     none_below v (there (there (here e))) = subst (λ w. lt w least ≡ false) (sym e) (lesser_second (lesser a b) c)
+    none_below v (there (there (there x12))) = elim x12 [ ]
 
     none_above : (v : Float) → Memᴰ v (a ∷ b ∷ c ∷ []) → lt greatest v ≡ false
     none_above v (here e) = subst (λ w. lt greatest w ≡ false) (sym e) (not_below_through greatest (greater a b) a greatest-finite (greater-finite a b fa fb) fa (greater_first (greater a b) c) (greater_first a b))
     none_above v (there (here e)) = subst (λ w. lt greatest w ≡ false) (sym e) (not_below_through greatest (greater a b) b greatest-finite (greater-finite a b fa fb) fb (greater_first (greater a b) c) (greater_second a b))
     none_above v (there (there (here e))) = subst (λ w. lt greatest w ≡ false) (sym e) (greater_second (greater a b) c)
+    none_above v (there (there (there x12))) = elim x12 [ ]
 
     pub in_order : lt greatest least ≡ false
     in_order = none_above least least_in
@@ -70,6 +72,7 @@ module _ (t : Corners) (f : AllFinite t) where
   xs-finite v (here e) = f v (here e)
   xs-finite v (there (here e)) = f v (there (here e))
   xs-finite v (there (there (here e))) = f v (there (there (here e)))
+  xs-finite v (there (there (there x12))) = elim x12 [ ]
 
   ys-finite : (v : Float) → Memᴰ v (ys t) → finite v ≡ true
   ys-finite v m = f v (there (there (there m)))

@@ -1,11 +1,32 @@
 // Reading cases: a text in lines and words, and what the hexadecimal digits of a word stand for.
 #![tactic(auto)]
 
-ghost use Rattle.std.specs.Prelude.{◌≡◌, ◌+◌, ◌-◌, ◌*◌, ◌≤◌, ◌<◌, min, length};
+ghost use Rattle.std.specs.Prelude.{IfOk, ◌≡◌, ◌+◌, ◌-◌, ◌*◌, ◌≤◌, ◌<◌, min, length};
 ghost use Rattle.std.specs.Float.{binary64};
 ghost use Rattle.std.specs.Float.Ieee.{of_bits, to_bits};
 ghost use Rattle.cases.specs.Digits.{digit_value, number_of, byte_of, fitting, filled, glyph as glyph_of, spelt, lettered};
 ghost use Rattle.cases.specs.Words.{until as until_of};
+ghost use Rattle.std.specs.Io.{ReadsAtMost};
+ghost use Rattle.cases.specs.Input.{FilledBy};
+
+use std::io;
+use std::io::Read;
+
+// Reads until the room is full or the input ends; how many bytes came, which stand at the room's front.
+pub fn read_input<R: Read>(reader: &mut R, room: &mut [u8]) -> io::Result<usize>
+    ensures bound { ReadsAtMost result room.new }
+    ensures filled { IfOk result (λ n. FilledBy (R.remaining reader.old) (R.remaining reader.new) n room.new) }
+{
+    let mut done: usize = 0;
+    while done < room.len() {
+        let n = reader.read(&mut room[done..])?;
+        if n == 0 {
+            break;
+        }
+        done = done + n;
+    }
+    Ok(done)
+}
 
 // What stands in the text from a place on, before the first byte `stop`; nothing where the text has ended.
 pub fn until(text: &[u8], from: usize, stop: u8) -> &[u8]

@@ -2,26 +2,26 @@
 // digits, of the values' bits, with a space before each value. A line of the output has number, kind, which, edge and line, then t, x and y by their bits.
 #![tactic(auto)]
 
-fn write_number(n: u32) {
-    io::print_decimal(1, n as u64);
-    io::write_all(1, b" ");
+use std::io;
+
+fn write_number<P: Print>(out: &P, n: u32) -> io::Result<()> {
+    print!(out; "{n} ")
 }
 
-fn write_value(x: f64) {
-    io::write_all(1, b" ");
-    io::print_hex(1, cases::bits_of(x), 16);
+fn write_value<P: Print>(out: &P, x: f64) -> io::Result<()> {
+    print!(out; " {:016x}", cases::bits_of(x))
 }
 
-fn write_corner(c: corners::Told) {
-    write_number(c.number);
-    write_number(c.kind);
-    write_number(c.which);
-    write_number(c.edge);
-    io::print_decimal(1, c.line as u64);
-    write_value(c.t);
-    write_value(c.x);
-    write_value(c.y);
-    io::write_all(1, b"\n");
+fn write_corner<P: Print>(out: &P, c: corners::Told) -> io::Result<()> {
+    write_number(out, c.number)?;
+    write_number(out, c.kind)?;
+    write_number(out, c.which)?;
+    write_number(out, c.edge)?;
+    print!(out; "{}", c.line)?;
+    write_value(out, c.t)?;
+    write_value(out, c.x)?;
+    write_value(out, c.y)?;
+    out.write_all(b"\n")
 }
 
 // What is told of a place, of the first n of these values.
@@ -54,21 +54,22 @@ fn put_values(values: &mut [f64], line: &[u8], from: usize) -> usize {
 }
 
 // The case of a line: a place, and values.
-fn run(line: &[u8]) {
+fn run<P: Print>(out: &P, line: &[u8]) -> io::Result<()> {
     let head = cases::until(line, 0, b' ');
     let place = cases::number_of(head) as usize;
     let mut values = [0.0; 32];
     let n = put_values(&mut values, line, head.len());
-    write_corner(told_of(&values, n, place));
+    write_corner(out, told_of(&values, n, place))
 }
 
-fn main() {
+fn main(rt: HostRuntime) -> io::Result<()> {
     let mut text = [0u8; 131072];
-    let n = io::read_full(0, &mut text);
+    let n = cases::read_input(&mut rt.stdin(), &mut text)?;
     let mut at: usize = 0;
     while at < n {
         let line = cases::until(&text[0..n], at, b'\n');
-        run(line);
+        run(&rt, line)?;
         at = at + line.len() + 1;
     }
+    Ok(())
 }

@@ -3,66 +3,69 @@
 // bytes, and each of its coordinates by the sixteen digits of its double.
 #![tactic(auto)]
 
-fn write_number(n: u32) {
-    io::print_hex(1, n as u64, 8);
-    io::write_all(1, b" ");
+use std::io;
+
+fn write_number<P: Print>(out: &P, n: u32) -> io::Result<()> {
+    print!(out; "{n:08x} ")
 }
 
-fn write_bytes(bytes: &[u8]) {
+fn write_bytes<P: Print>(out: &P, bytes: &[u8]) -> io::Result<()> {
     let mut digits = [0u8; 8192];
     let n = cases::digits_of(bytes, &mut digits);
-    io::write_all(1, &digits[0..n]);
+    out.write_all(&digits[0..n])
 }
 
-fn write_coordinates(part: &[u8]) {
+fn write_coordinates<P: Print>(out: &P, part: &[u8]) -> io::Result<()> {
     let mut j = 0;
     while j < part.len() / 4 {
-        io::write_all(1, b" ");
-        io::print_hex(1, cases::bits_of(reading::f64_at(part, 4 * j)), 16);
+        print!(out; " {:016x}", cases::bits_of(reading::f64_at(part, 4 * j)))?;
         j += 1;
     }
+    Ok(())
 }
 
-fn write_recording(r: layout::Recording) {
-    write_number(r.number);
-    write_number(r.place);
-    write_number(r.id);
-    write_number(r.first);
-    write_number(r.count);
-    write_number(r.set);
-    write_number(r.last);
+fn write_recording<P: Print>(out: &P, r: layout::Recording) -> io::Result<()> {
+    write_number(out, r.number)?;
+    write_number(out, r.place)?;
+    write_number(out, r.id)?;
+    write_number(out, r.first)?;
+    write_number(out, r.count)?;
+    write_number(out, r.set)?;
+    write_number(out, r.last)
 }
 
 // One case: a file, and the number of a recording.
-fn answer(file: &[u8], k: usize) {
+fn answer<P: Print>(out: &P, file: &[u8], k: usize) -> io::Result<()> {
     let v = footprint::check(file);
-    write_number(v.number);
-    write_number(v.place);
-    write_recording(recordings::recording(file, k));
+    write_number(out, v.number)?;
+    write_number(out, v.place)?;
+    write_recording(out, recordings::recording(file, k))?;
     let part = recordings::part(file, k);
-    write_bytes(part);
-    write_coordinates(part);
-    io::write_all(1, b"\n");
+    write_bytes(out, part)?;
+    write_coordinates(out, part)?;
+    out.write_all(b"\n")
 }
 
 // The case of a line, whose file is laid in the room.
-fn run(line: &[u8], room: &mut [u8]) {
+fn run<P: Print>(out: &P, line: &[u8], room: &mut [u8]) -> io::Result<()> {
     let head = cases::until(line, 0, b' ');
     let at = head.len();
     if at < line.len() {
         let n = cases::bytes_of(cases::until(line, at + 1, b' '), room);
-        answer(&room[0..n], cases::number_of(head) as usize);
+        answer(out, &room[0..n], cases::number_of(head) as usize)?;
     }
+    Ok(())
 }
 
-fn main() {
+fn main(rt: HostRuntime) -> io::Result<()> {
     let mut text = [0u8; 131072];
     let mut room = [0u8; 4096];
-    let n = io::read_full(0, &mut text);
+    let n = cases::read_input(&mut rt.stdin(), &mut text)?;
     let mut at: usize = 0;
     while at < n {
         let line = cases::until(&text[0..n], at, b'\n');
-        run(line, &mut room);
+        run(&rt, line, &mut room)?;
         at = at + line.len() + 1;
     }
+    Ok(())
 }

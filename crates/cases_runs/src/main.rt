@@ -13,6 +13,7 @@
 ghost use Rattle.std.specs.Prelude.{length};
 
 use arrival::{Arrival, State};
+use std::io;
 
 const MEMORY: usize = 65600;
 
@@ -41,50 +42,69 @@ fn fill(bytes: &mut [u8], b: u8) {
     }
 }
 
-fn write_number(n: u32, behind: &[u8]) {
-    io::print_hex(1, n as u64, 8);
-    io::write_all(1, behind);
+fn write_number<P: Print>(out: &P, n: u32, behind: &[u8]) -> io::Result<()> {
+    print!(out; "{n:08x}")?;
+    out.write_all(behind)
 }
 
 // Writes an answer; the state that it has.
-fn told(a: Arrival) -> State {
-    write_number(a.number, b" ");
-    write_number(a.place, b" ");
-    write_number(a.arrived, b" ");
-    write_number(a.ended, b"\n");
-    State {
+fn told<P: Print>(out: &P, a: Arrival) -> io::Result<State> {
+    write_number(out, a.number, b" ")?;
+    write_number(out, a.place, b" ")?;
+    write_number(out, a.arrived, b" ")?;
+    write_number(out, a.ended, b"\n")?;
+    Ok(State {
         arrived: a.arrived,
         ended: a.ended,
-    }
+    })
 }
 
-fn piece(s: State, bytes: &[u8], memory: &mut [u8], size: usize) -> State {
+fn piece<P: Print>(
+    out: &P,
+    s: State,
+    bytes: &[u8],
+    memory: &mut [u8],
+    size: usize,
+) -> io::Result<State> {
     if size <= memory.len() {
-        return told(arriving::piece(s, bytes, &mut memory[0..size]));
+        return told(out, arriving::piece(s, bytes, &mut memory[0..size]));
     }
-    s
+    Ok(s)
 }
 
-fn given_piece(s: State, word: &[u8], memory: &mut [u8], size: usize) -> State {
+fn given_piece<P: Print>(
+    out: &P,
+    s: State,
+    word: &[u8],
+    memory: &mut [u8],
+    size: usize,
+) -> io::Result<State> {
     let mut bytes = [0u8; 4096];
     let n = cases::bytes_of(word, &mut bytes);
-    piece(s, &bytes[0..n], memory, size)
+    piece(out, s, &bytes[0..n], memory, size)
 }
 
-fn filled_piece(s: State, n: usize, b: u8, memory: &mut [u8], size: usize) -> State {
+fn filled_piece<P: Print>(
+    out: &P,
+    s: State,
+    n: usize,
+    b: u8,
+    memory: &mut [u8],
+    size: usize,
+) -> io::Result<State> {
     let mut bytes = [0u8; LONGEST_PIECE];
     fill(&mut bytes, b);
     if n <= LONGEST_PIECE {
-        return piece(s, &bytes[0..n], memory, size);
+        return piece(out, s, &bytes[0..n], memory, size);
     }
-    s
+    Ok(s)
 }
 
-fn end(s: State, memory: &[u8], size: usize) -> State {
+fn end<P: Print>(out: &P, s: State, memory: &[u8], size: usize) -> io::Result<State> {
     if size <= memory.len() {
-        return told(arriving::end(s, &memory[0..size]));
+        return told(out, arriving::end(s, &memory[0..size]));
     }
-    s
+    Ok(s)
 }
 
 fn touch(memory: &mut [u8], at: usize, word: &[u8]) {
@@ -93,45 +113,46 @@ fn touch(memory: &mut [u8], at: usize, word: &[u8]) {
     text::put_bytes(memory, at, &bytes[0..n]);
 }
 
-fn show(memory: &[u8], at: usize, n: usize) {
+fn show<P: Print>(out: &P, memory: &[u8], at: usize, n: usize) -> io::Result<()> {
     let mut digits = [0u8; 4096];
     if memory.len() < at {
-        return;
+        return Ok(());
     }
     if memory.len() - at < n {
-        return;
+        return Ok(());
     }
     let k = cases::digits_of(&memory[at..at + n], &mut digits);
-    io::write_all(1, &digits[0..k]);
-    io::write_all(1, b"\n");
+    out.write_all(&digits[0..k])?;
+    out.write_all(b"\n")
 }
 
 // Does what a line says; the state behind it.
-fn step(line: &[u8], s: State, memory: &mut [u8]) -> State {
+fn step<P: Print>(out: &P, line: &[u8], s: State, memory: &mut [u8]) -> io::Result<State> {
     if line.len() == 0 {
-        return s;
+        return Ok(s);
     }
     let letter = line[0];
     let first = number_at(line, 2);
     let second = number_at(line, 11);
     if letter == b'n' {
         fill(memory, byte(first));
-        return State {
+        return Ok(State {
             arrived: 0,
             ended: 0,
-        };
+        });
     }
     if letter == b's' {
-        return State {
+        return Ok(State {
             arrived: low(first),
             ended: low(second),
-        };
+        });
     }
     if letter == b'p' {
-        return given_piece(s, cases::until(line, 11, b' '), memory, first as usize);
+        return given_piece(out, s, cases::until(line, 11, b' '), memory, first as usize);
     }
     if letter == b'r' {
         return filled_piece(
+            out,
             s,
             second as usize,
             byte(number_at(line, 20)),
@@ -140,22 +161,22 @@ fn step(line: &[u8], s: State, memory: &mut [u8]) -> State {
         );
     }
     if letter == b'e' {
-        return end(s, memory, first as usize);
+        return end(out, s, memory, first as usize);
     }
     if letter == b'w' {
         touch(memory, first as usize, cases::until(line, 11, b' '));
-        return s;
+        return Ok(s);
     }
     if letter == b'b' {
-        show(memory, first as usize, second as usize);
+        show(out, memory, first as usize, second as usize)?;
     }
-    s
+    Ok(s)
 }
 
-fn main() {
+fn main(rt: HostRuntime) -> io::Result<()> {
     let mut text = [0u8; 131072];
     let mut memory = [0u8; MEMORY];
-    let n = io::read_full(0, &mut text);
+    let n = cases::read_input(&mut rt.stdin(), &mut text)?;
     let mut s = State {
         arrived: 0,
         ended: 0,
@@ -163,7 +184,8 @@ fn main() {
     let mut at: usize = 0;
     while at < n {
         let line = cases::until(&text[0..n], at, b'\n');
-        s = step(line, s, &mut memory);
+        s = step(&rt, line, s, &mut memory)?;
         at = at + line.len() + 1;
     }
+    Ok(())
 }

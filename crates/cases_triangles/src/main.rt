@@ -3,6 +3,8 @@
 // flags, then what is decided of the values, its number, kind and area, and then the room as it is afterwards; value k of the room is lent as 1000 + k.
 #![tactic(auto)]
 
+use std::io;
+
 // The room as it is lent.
 fn lent() -> [f64; 32] {
     let mut room = [0.0; 32];
@@ -14,57 +16,51 @@ fn lent() -> [f64; 32] {
     room
 }
 
-fn write_value(x: f64) {
-    io::write_all(1, b" ");
-    io::print_hex(1, cases::bits_of(x), 16);
+fn write_value<P: Print>(out: &P, x: f64) -> io::Result<()> {
+    print!(out; " {:016x}", cases::bits_of(x))
 }
 
-fn write_flag(flag: bool) {
+fn write_flag<P: Print>(out: &P, flag: bool) -> io::Result<()> {
     if flag {
-        io::write_all(1, b"1");
+        out.write_all(b"1")
     } else {
-        io::write_all(1, b"0");
+        out.write_all(b"0")
     }
 }
 
-fn write_flags(flags: [bool; 3]) {
-    write_flag(flags[0]);
-    write_flag(flags[1]);
-    write_flag(flags[2]);
+fn write_flags<P: Print>(out: &P, flags: [bool; 3]) -> io::Result<()> {
+    write_flag(out, flags[0])?;
+    write_flag(out, flags[1])?;
+    write_flag(out, flags[2])
 }
 
-fn write_answer(a: triangles::Answer) {
-    io::print_decimal(1, a.number as u64);
-    io::write_all(1, b" ");
-    io::print_decimal(1, a.n as u64);
-    write_value(a.area);
-    io::write_all(1, b" ");
+fn write_answer<P: Print>(out: &P, a: triangles::Answer) -> io::Result<()> {
+    print!(out; "{} {}", a.number, a.n)?;
+    write_value(out, a.area)?;
+    out.write_all(b" ")?;
     let u_in_v = a.u_in_v;
     let v_in_u = a.v_in_u;
     let neighbour = a.neighbour;
-    write_flags(u_in_v);
-    write_flags(v_in_u);
-    write_flags(neighbour);
+    write_flags(out, u_in_v)?;
+    write_flags(out, v_in_u)?;
+    write_flags(out, neighbour)
 }
 
-fn write_decision(d: triangles::Said) {
-    io::write_all(1, b" ");
-    io::print_decimal(1, d.number as u64);
-    io::write_all(1, b" ");
-    io::print_decimal(1, d.kind as u64);
-    write_value(d.area);
+fn write_decision<P: Print>(out: &P, d: triangles::Said) -> io::Result<()> {
+    print!(out; " {} {}", d.number, d.kind)?;
+    write_value(out, d.area)
 }
 
 // The room's first values, and the end of the line.
-fn write_room(room: &[f64; 32], length: usize) {
+fn write_room<P: Print>(out: &P, room: &[f64; 32], length: usize) -> io::Result<()> {
     let mut k = 0;
     while k < 32 {
         if k < length {
-            write_value(room[k]);
+            write_value(out, room[k])?;
         }
         k += 1;
     }
-    io::write_all(1, b"\n");
+    out.write_all(b"\n")
 }
 
 // What is answered of the first n of these values, with the first of this room lent.
@@ -107,24 +103,25 @@ fn put_values(values: &mut [f64], line: &[u8], from: usize) -> usize {
 }
 
 // The case of a line: a room's length, and values.
-fn run(line: &[u8]) {
+fn run<P: Print>(out: &P, line: &[u8]) -> io::Result<()> {
     let head = cases::until(line, 0, b' ');
     let length = (cases::number_of(head) % 32) as usize;
     let mut values = [0.0; 32];
     let n = put_values(&mut values, line, head.len());
     let mut room = lent();
-    write_answer(answer_of(&values, n, &mut room, length));
-    write_decision(decided_of(&values, n));
-    write_room(&room, length);
+    write_answer(out, answer_of(&values, n, &mut room, length))?;
+    write_decision(out, decided_of(&values, n))?;
+    write_room(out, &room, length)
 }
 
-fn main() {
+fn main(rt: HostRuntime) -> io::Result<()> {
     let mut text = [0u8; 131072];
-    let n = io::read_full(0, &mut text);
+    let n = cases::read_input(&mut rt.stdin(), &mut text)?;
     let mut at: usize = 0;
     while at < n {
         let line = cases::until(&text[0..n], at, b'\n');
-        run(line);
+        run(&rt, line)?;
         at = at + line.len() + 1;
     }
+    Ok(())
 }

@@ -4,32 +4,34 @@
 
 ghost use Rattle.std.specs.Prelude.{◌+◌, ◌≤◌, max, length};
 
-fn write_number(n: u64) {
-    io::print_hex(1, n, 8);
-    io::write_all(1, b" ");
+use std::io;
+
+fn write_number<P: Print>(out: &P, n: u64) -> io::Result<()> {
+    print!(out; "{n:08x} ")
 }
 
-fn write_bytes(bytes: &[u8]) {
+fn write_bytes<P: Print>(out: &P, bytes: &[u8]) -> io::Result<()> {
     let mut digits = [0u8; 8192];
     let n = cases::digits_of(bytes, &mut digits);
-    io::write_all(1, &digits[0..n]);
+    out.write_all(&digits[0..n])
 }
 
-fn answer(file: &[u8], id: u32, room: &mut [u8]) {
+fn answer<P: Print>(out: &P, file: &[u8], id: u32, room: &mut [u8]) -> io::Result<()> {
     let a = showing::wkt(file, id, room);
-    write_number(a.number as u64);
-    write_number(a.place as u64);
-    write_number(a.length as u64);
-    write_bytes(room);
-    io::write_all(1, b"\n");
+    write_number(out, a.number as u64)?;
+    write_number(out, a.place as u64)?;
+    write_number(out, a.length as u64)?;
+    write_bytes(out, room)?;
+    out.write_all(b"\n")
 }
 
 // A file and an id, and the first m of a page of points as the room.
-fn answer_in(file: &[u8], id: u32, m: usize) {
+fn answer_in<P: Print>(out: &P, file: &[u8], id: u32, m: usize) -> io::Result<()> {
     let mut page = [46u8; 4096];
     if m <= 4096 {
-        answer(file, id, &mut page[0..m]);
+        answer(out, file, id, &mut page[0..m])?;
     }
+    Ok(())
 }
 
 // Where the word behind the one at a place begins.
@@ -46,23 +48,24 @@ fn id_of(n: u64) -> u32 {
 }
 
 // The case of a line.
-fn run(line: &[u8]) {
+fn run<P: Print>(out: &P, line: &[u8]) -> io::Result<()> {
     let mut bytes = [0u8; 2048];
     let m = cases::number_of(cases::until(line, 0, b' ')) as usize;
     let p = behind(line, 0);
     let q = behind(line, p);
     let id = id_of(cases::number_of(cases::until(line, p, b' ')));
     let n = cases::bytes_of(cases::until(line, q, b' '), &mut bytes);
-    answer_in(&bytes[0..n], id, m);
+    answer_in(out, &bytes[0..n], id, m)
 }
 
-fn main() {
+fn main(rt: HostRuntime) -> io::Result<()> {
     let mut text = [0u8; 131072];
-    let n = io::read_full(0, &mut text);
+    let n = cases::read_input(&mut rt.stdin(), &mut text)?;
     let mut at: usize = 0;
     while at < n {
         let line = cases::until(&text[0..n], at, b'\n');
-        run(line);
+        run(&rt, line)?;
         at = at + line.len() + 1;
     }
+    Ok(())
 }

@@ -4,39 +4,50 @@
 
 ghost use Rattle.std.specs.Prelude.{◌≡◌, ◌+◌, ◌*◌, ◌≤◌, max, length};
 
-fn write_number(n: u64) {
-    io::print_hex(1, n, 8);
-    io::write_all(1, b" ");
+use std::io;
+
+fn write_number<P: Print>(out: &P, n: u64) -> io::Result<()> {
+    print!(out; "{n:08x} ")
 }
 
-fn write_bytes(bytes: &[u8]) {
+fn write_bytes<P: Print>(out: &P, bytes: &[u8]) -> io::Result<()> {
     let mut digits = [0u8; 8192];
     let n = cases::digits_of(bytes, &mut digits);
-    io::write_all(1, &digits[0..n]);
+    out.write_all(&digits[0..n])
 }
 
-fn answer(
+fn answer<P: Print>(
+    out: &P,
     ids: &[u32],
     counts: &[u32],
     sets: &[u8],
     lasts: &[u8],
     numbers: &[i32],
     room: &mut [u8],
-) {
+) -> io::Result<()> {
     let a = filer::write(ids, counts, sets, lasts, numbers, room);
-    write_number(a.number as u64);
-    write_number(a.place as u64);
-    write_number(a.length as u64);
-    write_bytes(room);
-    io::write_all(1, b"\n");
+    write_number(out, a.number as u64)?;
+    write_number(out, a.place as u64)?;
+    write_number(out, a.length as u64)?;
+    write_bytes(out, room)?;
+    out.write_all(b"\n")
 }
 
 // Five lists, and the first m of a page of points as the room.
-fn answer_in(ids: &[u32], counts: &[u32], sets: &[u8], lasts: &[u8], numbers: &[i32], m: usize) {
+fn answer_in<P: Print>(
+    out: &P,
+    ids: &[u32],
+    counts: &[u32],
+    sets: &[u8],
+    lasts: &[u8],
+    numbers: &[i32],
+    m: usize,
+) -> io::Result<()> {
     let mut page = [46u8; 4096];
     if m <= 4096 {
-        answer(ids, counts, sets, lasts, numbers, &mut page[0..m]);
+        answer(out, ids, counts, sets, lasts, numbers, &mut page[0..m])?;
     }
+    Ok(())
 }
 
 // How many numbers of four bytes are held by so many bytes, and by a list of so many.
@@ -107,7 +118,7 @@ fn signed_at(line: &[u8], at: usize, list: &mut [i32]) -> usize
 }
 
 // The case of a line.
-fn run(line: &[u8]) {
+fn run<P: Print>(out: &P, line: &[u8]) -> io::Result<()> {
     let mut ids = [0u32; 128];
     let mut counts = [0u32; 128];
     let mut sets = [0u8; 128];
@@ -125,22 +136,24 @@ fn run(line: &[u8]) {
     let d = bytes_at(line, s, &mut lasts);
     let e = signed_at(line, t, &mut numbers);
     answer_in(
+        out,
         &ids[0..a],
         &counts[0..b],
         &sets[0..c],
         &lasts[0..d],
         &numbers[0..e],
         m,
-    );
+    )
 }
 
-fn main() {
+fn main(rt: HostRuntime) -> io::Result<()> {
     let mut text = [0u8; 131072];
-    let n = io::read_full(0, &mut text);
+    let n = cases::read_input(&mut rt.stdin(), &mut text)?;
     let mut at: usize = 0;
     while at < n {
         let line = cases::until(&text[0..n], at, b'\n');
-        run(line);
+        run(&rt, line)?;
         at = at + line.len() + 1;
     }
+    Ok(())
 }

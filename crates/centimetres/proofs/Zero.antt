@@ -48,7 +48,7 @@ unfolding le of_bits
 le_value nan s n v = absurd v
 le_value (inf t) s n v = absurd v
 le_value (fin t m e) s n v =
-    rw (zero-mul (down e), v.0, v.1) (at_least s (n * down e)) ∙ multiple is_not_negative (λ i j. refl) (λ i j. refl) s n (down e) (down_pos e)
+    rw (v.0, v.1) (ap (λ z. below false z s (n * down e) || level false z s (n * down e)) (zero-mul (down e)) ∙ at_least s (n * down e)) ∙ multiple is_not_negative (λ i j. refl) (λ i j. refl) s n (down e) (down_pos e)
 
 lt_value : (x : Float) (s : Bool) (n : ℕ) → HasValue x s n 1 → lt x nought ≡ is_negative (signed s n)
 unfolding lt of_bits

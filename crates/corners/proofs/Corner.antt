@@ -57,6 +57,7 @@ of_list l (q ∷ ps) t (there m) =
     let rest = positions_way (map (position_of l) ps) in
     let u = os (sym (all_append finite (c.x.way ++ c.y.way) rest) ∙ so t) in
     of_list l ps (and_r (all finite (c.x.way ++ c.y.way)) (all finite rest) u) m
+of_list l mathlib.Core.List.[] t {p = p} x'' = elim x'' [ ]
 
 module _ (l : List Float) (passed : NoRow l enough) where
   position_fine : (p : Place) → Memᴰ p (ring_of l) → T (fine (position_of l p).x)

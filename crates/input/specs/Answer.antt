@@ -1,6 +1,5 @@
 -- 01, "The leak list", and 02: what a program writes, of the bytes that arrived. What is to be said of a file's bytes is `says`; of one that is refused that is a `line` by its number and place. Definitions and statements.
 use Rattle.std.specs.Prelude.{ℕ, ◌<◌, ◌≤◌, min, ◌≡◌, true, cond, List, [], ◌++◌, eqb, ℤ, length, take}
-use Rattle.libc.specs.Io.{Moved}
 use Rattle.text.specs.Room.{Put}
 use Rattle.layout.specs.Verdict.{number_at, verdict}
 use Rattle.layout.specs.declared.Verdict.{Verdict}
@@ -11,7 +10,7 @@ use Rattle.input.specs.declared.Got.{Got}
 use Rattle.input.specs.declared.Piece.{Piece}
 use Rattle.input.specs.declared.Piece.TheVariants.{Ended, More}
 use Rattle.input.specs.declared.Reply.{Reply}
-use Rattle.input.specs.Reading.{piece_of, is_read, Gathered}
+use Rattle.input.specs.Reading.{Moved, piece_of, is_read, Gathered}
 
 -- of a read of at most so many bytes: some answer that read may give, as it is to be taken
 abbrev pub Took : ℕ → Piece → Type 0

@@ -5,6 +5,11 @@ use Rattle.input.specs.declared.Got.{Got}
 use Rattle.input.specs.declared.Piece.{Piece}
 use Rattle.input.specs.declared.Piece.TheVariants.{Failed, Ended, More}
 
+-- what a read of at most n bytes may answer, as a number: −1, or how many bytes it moved, at most n
+abbrev pub Moved : ℕ → ℤ → Type 0
+Moved n (pos k) = k ≤ n
+Moved n (negsuc k) = k ≡ 0
+
 -- a read that did not fail: no bytes are the end of the input
 abbrev pub came : ℕ → Piece
 came k = cond (eqb k 0) Ended (More k)

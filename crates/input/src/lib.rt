@@ -8,6 +8,7 @@ ghost use Rattle.input.specs.Reading.{piece_of, is_read, Gathered};
 ghost use Rattle.input.specs.Answer.{Took};
 
 use arrival::{Arrival, State};
+use std::io::Read;
 
 // The length of the buffer that a file arrives in.
 const SIZE: usize = 65536;
@@ -69,10 +70,13 @@ pub fn is_read(g: Got) -> bool
     }
 }
 
-fn read_some(fd: i32, part: &mut [u8]) -> Piece
+fn read_some<R: Read>(reader: &mut R, part: &mut [u8]) -> Piece
     ensures { Took (length part.new) result }
 {
-    let got = libc::read(fd, part);
+    let got = match reader.read(part) {
+        Ok(n) => n as isize,
+        Err(_) => -1,
+    };
     piece_of(got, part.len())
 }
 
@@ -84,7 +88,7 @@ fn handed(part: &[u8], k: usize, arrived: u32, buffer: &mut [u8]) -> Arrival
 }
 
 // Hands what each read brings over as a piece of the file, until the input ends, a read fails or more has arrived than a file may have. Where the buffer has another length than 65,536 nothing is read, as if that had failed.
-pub fn read_all(fd: i32, buffer: &mut [u8]) -> Got
+pub fn read_all<R: Read>(reader: &mut R, buffer: &mut [u8]) -> Got
     ensures { Gathered buffer.old result buffer.new }
 {
     let mut arrived: u32 = 0;
@@ -92,9 +96,9 @@ pub fn read_all(fd: i32, buffer: &mut [u8]) -> Got
     if buffer.len() != SIZE {
         return Got { arrived, last };
     }
-    let mut part = io::large_buffer();
+    let mut part = [0u8; SIZE];
     while arrived < TOO_MANY {
-        last = read_some(fd, &mut part);
+        last = read_some(reader, &mut part);
         let Piece::More(k) = last else {
             return Got { arrived, last };
         };

@@ -75,6 +75,7 @@ module _ (table bounds : List Float) where
       fine v (there (there (there (here e)))) = p.all_finite v (there (here e))
       fine v (there (there (there (there (here e))))) = p.all_finite v (there (there (there (here e))))
       fine v (there (there (there (there (there (here e)))))) = p.all_finite v (there (there (there (there (there (here e))))))
+      fine v (there (there (there (there (there (there x24)))))) = elim x24 [ ]
 
   -- ---- a row: one more pair, or some that are passed over
   row_snoc : (i j b : ℕ) → row_in table i j (b + 1) ≡ row_in table i j b ++ (values_in table i (j + b) ∷ [])

@@ -9,7 +9,7 @@ ghost use Rattle.input.specs.Answer.{AtFront, said_by, output_for, Replied};
 
 use arrival::{Arrival, State};
 use input::{Got, Reply};
-use libc::{STDERR_FILENO, STDIN_FILENO, STDOUT_FILENO};
+use std::io::Read;
 
 // The length of the buffer that a file arrives in.
 const SIZE: usize = 65536;
@@ -51,10 +51,10 @@ fn answer(g: Got, buffer: &[u8; SIZE], room: &mut [u8; ROOM]) -> usize
 }
 
 // Takes the input into the buffer as it arrives, and puts what is to be said of it at the front of the room.
-fn reply_to(fd: i32, buffer: &mut [u8; SIZE], room: &mut [u8; ROOM]) -> Reply
+fn reply_to<R: Read>(reader: &mut R, buffer: &mut [u8; SIZE], room: &mut [u8; ROOM]) -> Reply
     ensures { Replied output_of buffer.old room.old result buffer.new room.new }
 {
-    let got = input::read_all(fd, buffer);
+    let got = input::read_all(reader, buffer);
     let n = answer(got, buffer, room);
     Reply { got, n }
 }
@@ -66,16 +66,16 @@ fn text(room: &[u8; ROOM], n: usize) -> &[u8]
     text::front(room, n)
 }
 
-fn main() {
+fn main(rt: HostRuntime) {
     let mut buffer = [0u8; SIZE];
     let mut room = [0u8; ROOM];
-    let r = reply_to(STDIN_FILENO, &mut buffer, &mut room);
+    let r = reply_to(&mut rt.stdin(), &mut buffer, &mut room);
     let n = r.n;
     let got = r.got;
-    if !io::write_all(STDOUT_FILENO, text(&room, n)) {
-        io::write_all(STDERR_FILENO, b"leaks: writing failed\n");
+    if rt.write_all(text(&room, n)).is_err() {
+        let _ = eprintln!(rt; "leaks: writing failed");
     }
     if !input::is_read(got) {
-        io::write_all(STDERR_FILENO, b"leaks: reading failed\n");
+        let _ = eprintln!(rt; "leaks: reading failed");
     }
 }

@@ -35,6 +35,7 @@ below (suc n) m = elim (in_append (up_to n) (n ∷ []) m) [
   where
     last : {i : ℕ} → Memᴰ i (n ∷ []) → i < suc n
     last (here e) = omega (arith, e)
+    last (there x5) = elim x5 [ ]
 
 pub reached : (n i : ℕ) → i < n → Memᴰ i (up_to n)
 unfolding up_to
@@ -240,3 +241,4 @@ Sorted-up_to (suc n) = Sorted-append ◌<◌ (up_to n) (n ∷ []) (Sorted-up_to 
   where
     last : (x y : ℕ) → Memᴰ x (up_to n) → Memᴰ y (n ∷ []) → x < y
     last x y m (here e) = let h = below n m in omega (arith, h, e)
+    last x y m (there x5) = elim x5 [ ]

@@ -23,6 +23,7 @@ is_digit_lem b h k = rw (le-leb 48 b h, le-leb b 57 k) refl
 
 one_digit : (d : ℕ) → d < 10 → AllDigits (digit d ∷ [])
 one_digit d h b (here e) = subst IsDigit (sym e) (omega arith, omega (arith, h))
+one_digit d h b (there x4) = elim x4 [ ]
 
 append_digits : (xs ys : List ℕ) → AllDigits xs → AllDigits ys → AllDigits (xs ++ ys)
 append_digits [] ys p q b m = q b m

@@ -2,14 +2,15 @@
 // Where a read fails the file has not ended: then nothing is written but a line on standard error. So it is where the argument is no id.
 #![tactic(auto)]
 
-ghost use Rattle.std.specs.Prelude.{◌≡◌, length, take};
+ghost use Rattle.std.specs.Prelude.{◌≡◌, ◌≤◌, length, take};
 ghost use Rattle.listing.specs.Words.{refused_line};
 ghost use Rattle.input.specs.Answer.{AtFront, said_by, output_for, Replied};
 ghost use Rattle.wkt.specs.Answer.{output_of};
 
 use arrival::{Arrival, State};
 use input::{Got, Reply};
-use libc::{STDERR_FILENO, STDIN_FILENO, STDOUT_FILENO};
+use std::env::{Env, FillError};
+use std::io::Read;
 
 // The length of the buffer that a file arrives in.
 const SIZE: usize = 65536;
@@ -65,10 +66,15 @@ fn answer(g: Got, buffer: &[u8; SIZE], id: u32, room: &mut [u8; ROOM]) -> usize
 }
 
 // Takes the input into the buffer as it arrives, and puts what is to be said of it at the front of the room.
-fn reply_to(fd: i32, buffer: &mut [u8; SIZE], id: u32, room: &mut [u8; ROOM]) -> Reply
+fn reply_to<R: Read>(
+    reader: &mut R,
+    buffer: &mut [u8; SIZE],
+    id: u32,
+    room: &mut [u8; ROOM],
+) -> Reply
     ensures { Replied (output_of id) buffer.old room.old result buffer.new room.new }
 {
-    let got = input::read_all(fd, buffer);
+    let got = input::read_all(reader, buffer);
     let n = answer(got, buffer, id, room);
     Reply { got, n }
 }
@@ -81,27 +87,56 @@ fn text(room: &[u8; ROOM], n: usize) -> &[u8]
 }
 
 // What the program does where its argument is an id.
-fn run(id: u32) {
+fn run(rt: &HostRuntime, id: u32) {
     let mut buffer = [0u8; SIZE];
     let mut room = empty_room();
-    let r = reply_to(STDIN_FILENO, &mut buffer, id, &mut room);
+    let r = reply_to(&mut rt.stdin(), &mut buffer, id, &mut room);
     let n = r.n;
     let got = r.got;
-    if !io::write_all(STDOUT_FILENO, text(&room, n)) {
-        io::write_all(STDERR_FILENO, b"wkt: writing failed\n");
+    if rt.write_all(text(&room, n)).is_err() {
+        let _ = eprintln!(rt; "wkt: writing failed");
     }
     if !input::is_read(got) {
-        io::write_all(STDERR_FILENO, b"wkt: reading failed\n");
+        let _ = eprintln!(rt; "wkt: reading failed");
     }
 }
 
-fn main() {
+// The length of word i of the command, which is then in the space; 0 where it is not there or longer than the space.
+fn word_at<E: Env>(env: &E, i: usize, space: &mut [u8]) -> usize
+    ensures { result ≤ length space.new }
+{
+    match env.arg(i, space) {
+        Ok(n) => n,
+        Err(_) => 0,
+    }
+}
+
+// Whether the command has a word i.
+fn is_given<E: Env>(env: &E, i: usize) -> bool {
+    let mut space = [0u8; WORD];
+    match env.arg(i, &mut space) {
+        Err(FillError::NotPresent) => false,
+        _ => true,
+    }
+}
+
+// How many words the command has, its own name among them; 3 if it has more.
+fn word_count<E: Env>(env: &E) -> usize {
+    for i in 0..3 {
+        if !is_given(env, i) {
+            return i;
+        }
+    }
+    3
+}
+
+fn main(rt: HostRuntime) {
     let mut word = [0u8; WORD];
-    let n = os::arg(1, &mut word);
-    let i = words::asked(os::arg_count(), &word[0..n]);
+    let n = word_at(&rt, 1, &mut word);
+    let i = words::asked(word_count(&rt), &word[0..n]);
     if i.there {
-        run(i.id);
+        run(&rt, i.id);
     } else {
-        io::write_all(STDERR_FILENO, b"usage: wkt ID <FILE\n");
+        let _ = eprintln!(rt; "usage: wkt ID <FILE");
     }
 }

@@ -1,0 +1,7 @@
+-- Ten bytes and a number.
+use native.Mathlib.Omega.{arith}
+use Rattle.wording.proofs.Lines.{touching_length}
+use Rattle.wording.proofs.touching_length.Goals as goal
+
+pub returns : goal.returns
+returns c = let w = c.width.ensures in (omega (arith, touching_length c.args.k, w.0), omega (arith, w.1))
