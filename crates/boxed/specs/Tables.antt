@@ -1,5 +1,5 @@
 -- Boxes in a flat table, four values each, for the many pairs of a file: what stands there, the box around several, and which is the next that shares a point with a box. Definitions and statements.
-use Rattle.std.specs.Prelude.{ℕ, zero, suc, ◌+◌, ◌*◌, ◌/◌, ◌<◌, ◌≤◌, ◌≡◌, true, false, cond, List, [], ◌∷◌, ltb, length, get_or, set, Float}
+use Rattle.std.specs.Prelude.{ℕ, zero, suc, ◌+◌, ◌*◌, ◌/◌, ◌<◌, ◌≤◌, ◌≡◌, true, false, cond, List, ltb, length, get_or, set, Float}
 use Rattle.std.specs.Float.{nan}
 use Rattle.boxes.specs.declared.Box.{Box}
 use Rattle.boxes.specs.Boxes.{around, share_point}

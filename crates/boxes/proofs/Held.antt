@@ -1,5 +1,5 @@
 -- The lesser of two values is above neither, the greater below neither; so a box around two holds both, and what shares no point with a box shares none with what lies in it. Assumes nothing.
-use mathlib.Core.Path.{◌≡◌, refl, sym, ap, ◌∙◌}
+use mathlib.Core.Path.{◌≡◌, refl, ap}
 use mathlib.Core.Logic.{◌⊎◌, inl, inr}
 use mathlib.Core.Bool.{Bool, true, false, not, ◌||◌, cond, true≢false, false≢true}
 use lib.Ieee.{Float, lt}

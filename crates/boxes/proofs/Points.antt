@@ -1,14 +1,14 @@
 -- Of triangles with finite coordinates: boxes share no point exactly if all of one triangle lies below all of the other on an axis, and share one exactly if a point is in both. Assumes nothing.
 use mathlib.Core.Path.{◌≡◌, refl, sym, ap, subst, ◌∙◌}
 use mathlib.Core.Logic.{◌⊎◌, inl, inr}
-use mathlib.Core.Bool.{Bool, true, false, not, true≢false, false≢true}
+use mathlib.Core.Bool.{Bool, true, false, true≢false, false≢true}
 use mathlib.Core.List.Memᴰ.{head as here}
 use mathlib.Core.List.Memᴰ.{tail as there}
-use mathlib.Core.List.{List, [], ◌∷◌, Memᴰ}
+use mathlib.Core.List.{[], ◌∷◌, Memᴰ}
 use lib.Ieee.{Float, lt}
 use Rattle.floats.specs.Finite.{finite}
 use Rattle.floats.specs.declared.Position.{Position}
-use Rattle.floats.proofs.Smaller.{lt_through, lt_after, lt_not_self, not_below_through}
+use Rattle.floats.proofs.Smaller.{lt_through, lt_after, not_below_through}
 use Rattle.boxes.specs.declared.Box.{Box}
 use Rattle.boxes.specs.Boxes.{lesser, greater, box_of, share_point}
 use Rattle.boxes.specs.Shared.{Corners, xs, ys, box_around, AllFinite, In, AllBelow, Parted, SharedExactlyIf, SharedPoints, FiniteBox}

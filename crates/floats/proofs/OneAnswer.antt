@@ -1,5 +1,5 @@
 -- A promise that is an equation, or has one for its first fact, fixes the answer. Assumes nothing.
-use mathlib.Core.Path.{◌≡◌, sym, ap₂, ◌∙◌}
+use mathlib.Core.Path.{sym, ap₂, ◌∙◌}
 use Rattle.floats.specs.OneAnswer.{EquationsFix}
 
 pub equations_fix : EquationsFix

@@ -1,5 +1,5 @@
 -- A value whose sign is plus is not below zero; a value with its sign turned where it is below zero is not below zero; and of a value whose sign is plus and one that is not below zero the sum has the sign plus. Assumes nothing.
-use Prim.Native.Nat.{ℕ, zero, ◌+◌, ◌-◌, ◌*◌}
+use Prim.Native.Nat.{ℕ, ◌+◌, ◌-◌, ◌*◌}
 use mathlib.Core.Path.{◌≡◌, refl, sym, ap, ◌∙◌}
 use mathlib.Core.Bool.{Bool, true, false, cond, true≢false, false≢true}
 use native.Mathlib.Omega.{arith}

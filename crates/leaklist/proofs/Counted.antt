@@ -15,7 +15,7 @@ use Rattle.floats.specs.Finite.{finite}
 use Rattle.triangles.specs.declared.Decision.{Decision}
 use Rattle.triangles.specs.Decision.{by_rules}
 use Rattle.shapes.specs.declared.Shape.{Shape}
-use Rattle.shapes.specs.Shapes.{six_of, twelve}
+use Rattle.shapes.specs.Shapes.{six_of}
 use Rattle.boxes.specs.declared.Box.{Box}
 use Rattle.boxes.specs.Boxes.{share_point}
 use Rattle.boxes.specs.Shared.{FiniteBox}

@@ -1,11 +1,11 @@
 -- How many triangle pairs are tested at most: no more of two recordings than they have, and so no more of all than the file has triangles, squared. Assumes nothing.
-use Prim.Native.Nat.{ℕ, zero, suc, ◌+◌, ◌-◌, ◌*◌, ◌/◌, ◌<◌, ◌≤◌}
+use Prim.Native.Nat.{ℕ, zero, suc, ◌+◌, ◌-◌, ◌*◌, ◌<◌, ◌≤◌}
 use mathlib.Core.Path.{◌≡◌, refl, sym, ap, ◌∙◌}
 use mathlib.Core.Bool.{Bool, true, false, cond}
 use mathlib.Core.List.{List}
 use native.Mathlib.Omega.{arith}
-use native.Mathlib.Nat.{mul_comm, mul_assoc, mul-add, add-mul, mul-le-mul, mul-le-mul_left, mul-le-mul_right, mul-zero, zero-mul}
-use Rattle.layout.specs.Parts.{table_place, count_of, entry_at, part_end, end_before}
+use native.Mathlib.Nat.{mul_comm, mul_assoc, mul-add, mul-le-mul_left}
+use Rattle.layout.specs.Parts.{count_of, entry_at, part_end, end_before}
 use Rattle.layout.specs.Layout.{Layout}
 use Rattle.layout.proofs.Inside.{parts_inside, starts}
 use Rattle.sets.specs.Sets.{is_test, is_training}

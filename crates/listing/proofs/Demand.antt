@@ -9,7 +9,7 @@ use lib.Dec.{eqb, ltb}
 use borrow.Author.Tests.{ltb-true, lt-ltb, eqb-true, eqb-false, eq-eqb}
 use lib.ListN.{length, get_or, length-map}
 use lib.Ieee.{binary64, mul, lt}
-use Rattle.floats.specs.Lists.{count, filter, any}
+use Rattle.floats.specs.Lists.{count, filter}
 use Rattle.triangles.specs.declared.Decision.{Decision}
 use Rattle.triangles.specs.declared.Decision.TheVariants.{Refused, Overlapping, Touching, Apart}
 use Rattle.triangles.specs.Decision.{overlaps, touches, is_refused}

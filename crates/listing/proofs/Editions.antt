@@ -6,10 +6,8 @@ use mathlib.Core.List.{List, [], ◌∷◌, map}
 use native.Mathlib.Omega.{arith}
 use lib.Dec.{ltb}
 use borrow.Author.Tests.{ltb-false, eq-eqb, ne_eqb}
-use lib.Dec.{eqb}
 use lib.Ieee.{Float, binary64, add, mul, lt, round, of_int, of_bits}
 use Rattle.floats.specs.Finite.{nought}
-use Rattle.floats.specs.Lists.{count}
 use Rattle.floats.proofs.Sums.{is_plus, product_plus}
 use Rattle.floats.proofs.Plus.{not_below, turned_not_below, sum_plus}
 use Rattle.triangles.specs.Positions.{half}

@@ -10,7 +10,7 @@ use borrow.Author.Tests.{eqb-true, eqb-false, lt-ltb, le-ltb, ltb-true, ltb-fals
 use lib.ListN.{length}
 use Rattle.text.specs.Room.{laid, WholeOrNothing}
 use Rattle.text.proofs.Room.{whole_or_nothing, put_front}
-use Rattle.layout.specs.Verdict.{verdict, good}
+use Rattle.layout.specs.Verdict.{verdict}
 use Rattle.layout.proofs.Returned.{number_range, is_good, has_Layout, file_first_lem, not_refused}
 use Rattle.listing.specs.Leaks.{leaks, beside}
 use Rattle.listing.specs.Words.{list_text, refused_line}

@@ -1,7 +1,7 @@
 -- What an entry tells, truth value by truth value, is what the rules say of the signs. Assumes nothing.
 use mathlib.Core.Path.{◌≡◌, refl, sym, ap, ◌∙◌}
 use mathlib.Core.Bool.{Bool, true, false, ◌||◌}
-use mathlib.Core.List.{List, [], map}
+use mathlib.Core.List.{List, map}
 use Prim.Native.Nat.{ℕ, zero, suc, ◌<◌}
 use native.Mathlib.Omega.{arith}
 use Rattle.floats.specs.Lists.{all, any}
@@ -10,7 +10,7 @@ use Rattle.lines.specs.Lines.{lines, three, up_from, start, finish, sign, signs_
 use Rattle.lines.specs.Crossings.{crosses, some_plus}
 use Rattle.order.proofs.Every.{in_three}
 use Rattle.ring.specs.Flags.{vertex_in}
-use Rattle.table.specs.Table.{digit_of, flags_in, in_v_of, entry_for, in_v_in, crossed_in, Tells, MinusThrice, TableTells}
+use Rattle.table.specs.Table.{digit_of, flags_in, in_v_of, entry_for, Tells, MinusThrice, TableTells}
 use Rattle.table.proofs.Digits.{there_and_back}
 use Rattle.table.proofs.Entries.{reads_in_v, reads_crossed}
 

@@ -21,7 +21,7 @@ use Rattle.triangles.specs.Positions.{position_of, ring_positions, area_of}
 use Rattle.triangles.specs.Refusals.{Row, lengths, coordinates, way_to_d, d_zero, way_to_e, e_zero, way_to_parameter, way_to_pair_test, way_to_position, way_to_area, table, number_of, row_test, first_of, refusal_of}
 use Rattle.triangles.specs.Answers.{answer_of, answered, whole_of}
 use Rattle.triangles.specs.Rows.{Applies, RefusedBy}
-use Rattle.triangles.specs.Decision.{is_above, decided, enough, answer_to, by_rules, decision_of, overlaps, touches, said, OverlapsBy, ApartBy, KindBy, OneKind, BoxesFirst, SameVertices, Decided, NoSecondDecision, NoSecondSaid, SaidDemand, SaidReturned, AnyRoom}
+use Rattle.triangles.specs.Decision.{is_above, decided, enough, answer_to, by_rules, decision_of, said, OverlapsBy, ApartBy, KindBy, OneKind, BoxesFirst, SameVertices, Decided, NoSecondDecision, NoSecondSaid, SaidDemand, SaidReturned, AnyRoom}
 use Rattle.triangles.proofs.Rows.{answered_is, refused_is, exactly_when}
 use Rattle.triangles.proofs.FiniteAnswer.{finite_answer}
 use Rattle.triangles.proofs.Nought.{area_nought_lem}

@@ -1,6 +1,6 @@
 -- Flags and ring as the code finds them, from the orders by V's corners. That they are the flags and the ring of the rules is proved (`is_ring`).
 -- Definitions only.
-use Rattle.std.specs.Prelude.{Bool, true, false, not, ◌&&◌, ◌||◌, cond, List, [], ◌∷◌, map, reverse, ℕ, ◌+◌, ◌-◌, ◌*◌, ◌/◌, ◌%◌, ◌^◌, eqb, ltb, get_or, set, take}
+use Rattle.std.specs.Prelude.{Bool, true, not, ◌&&◌, ◌||◌, cond, List, [], ◌∷◌, map, reverse, ℕ, ◌+◌, ◌-◌, ◌*◌, ◌/◌, ◌%◌, ◌^◌, eqb, ltb, get_or, set, take}
 use Rattle.std.specs.Int.Bits.{bit_and, bit_or, bit_xor}
 use Rattle.lines.specs.Lines.{corner_on, lower_line, upper_line, start, lower_end, sign, signs_at}
 use Rattle.table.specs.Table.{digit_of, flags_in, index_of, in_v_in}

@@ -1,5 +1,4 @@
 -- Each turn passes over one box that shares no point.
-use Prim.Native.Nat.{◌-◌}
 use Rattle.boxed.proofs.Rows.{next_turn, next_found, next_none, end_within}
 use Rattle.boxed.proofs.next_near.Goals as goal
 

@@ -1,5 +1,4 @@
 -- Each turn widens the box by one more.
-use Prim.Native.Nat.{◌-◌}
 use mathlib.Core.Path.{◌∙◌}
 use native.Mathlib.Omega.{arith}
 use Rattle.boxed.proofs.Rows.{over_none, over_turn}

@@ -1,11 +1,9 @@
 -- Before each turn the entries so far stand in the room, and the next one's triangles begin where theirs end.
-use Prim.Native.Nat.{◌-◌}
 use lib.ListN.{length}
 use mathlib.Core.Path.{refl}
 use native.Mathlib.Omega.{arith}
 use Rattle.text.proofs.Room.{put_as}
 use Rattle.filing.specs.Given.{sum_of}
-use Rattle.filing.specs.File.{joined}
 use Rattle.filing.proofs.Joined.{joined_none, joined_more}
 use Rattle.filer.proofs.Tables.{bytes_of, twelve, entry_bytes_lem, all_entries, next_first}
 use Rattle.filer.proofs.put_table.Goals as goal

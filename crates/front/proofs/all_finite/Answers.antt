@@ -1,8 +1,6 @@
 -- Each turn tests one more value.
 use mathlib.Core.Path.{refl}
-use Prim.Native.Nat.{◌-◌}
 use Rattle.floats.specs.Lists.{all}
-use Rattle.floats.specs.Finite.{finite}
 use Rattle.front.proofs.Turns.{one_tested}
 use borrow.Author.Rules.{rules}
 use Rattle.front.proofs.all_finite.Goals as goal

@@ -1,5 +1,4 @@
 -- A file that is refused is refused at once; the list of any other is written.
-use Prim.Native.Nat.{◌-◌}
 use mathlib.Core.Path.{sym, ap, ◌∙◌}
 use Rattle.layout.proofs.Returned.{has_Layout}
 use Rattle.leaklist.proofs.Written.{keeps_refusal}

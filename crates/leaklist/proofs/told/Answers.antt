@@ -1,5 +1,4 @@
 -- The list, or the line of its refusal.
-use Prim.Native.Nat.{◌-◌}
 use Rattle.leaklist.proofs.Written.{told_refused, told_list}
 use Rattle.leaklist.proofs.told.Goals as goal
 

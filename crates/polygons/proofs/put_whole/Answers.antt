@@ -1,6 +1,6 @@
 -- Digits of a number below ten thousand, or four behind such a number.
 use Prim.Native.Nat.{◌/◌}
-use Rattle.polygons.proofs.Numbers.{ten_thousand, long_is}
+use Rattle.polygons.proofs.Numbers.{long_is}
 use Rattle.polygons.proofs.Stores.{still}
 use Rattle.text.proofs.Laws.{width_is, digits-length}
 use Rattle.text.proofs.Room.{put_two, put_as}

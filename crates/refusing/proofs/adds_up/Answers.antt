@@ -1,5 +1,4 @@
 -- What is left and the sum so far are the triangles; a count above what is left is above every sum that would do.
-use Prim.Native.Nat.{◌-◌}
 use lib.ListN.{length}
 use native.Mathlib.Omega.{arith}
 use Rattle.filing.specs.Given.{sum_of}

@@ -1,5 +1,4 @@
 -- Before each turn the entries that are left say what all say.
-use Prim.Native.Nat.{◌-◌}
 use mathlib.Core.List.{[]}
 use lib.ListN.{length}
 use mathlib.Core.Path.{sym, ◌∙◌}

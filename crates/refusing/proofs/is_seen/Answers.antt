@@ -1,5 +1,4 @@
 -- The ids before id i are looked at from the first to the latest, each turn one more.
-use Prim.Native.Nat.{◌-◌}
 use lib.ListN.{get_or}
 use native.Mathlib.Omega.{arith}
 use Rattle.refusing.proofs.Turns.{seen_none, seen_turn}

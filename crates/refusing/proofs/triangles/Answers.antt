@@ -1,5 +1,5 @@
 -- Before each turn the triangles that are left say what all say.
-use Prim.Native.Nat.{◌-◌, ◌/◌}
+use Prim.Native.Nat.{◌/◌}
 use mathlib.Core.List.{[]}
 use lib.ListN.{length}
 use mathlib.Core.Path.{sym, ◌∙◌}

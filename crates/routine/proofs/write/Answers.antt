@@ -1,5 +1,4 @@
 -- Each turn writes one more value.
-use Prim.Native.Nat.{◌-◌}
 use Rattle.routine.proofs.Turns.{one_written, all_written}
 use borrow.Author.Rules.{rules}
 use Rattle.routine.proofs.write.Goals as goal

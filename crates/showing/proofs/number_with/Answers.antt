@@ -1,5 +1,4 @@
 -- What is left to look at decides.
-use Prim.Native.Nat.{◌-◌}
 use Rattle.showing.proofs.Searched.{id_at, from_first, here, not_here, nowhere}
 use mathlib.Core.Path.{sym, ◌∙◌}
 use native.Mathlib.Omega.{arith}

@@ -1,6 +1,4 @@
 -- Each turn adds one more.
-use Prim.Native.Nat.{◌-◌}
-use Rattle.chart.specs.Words.{others}
 use Rattle.showing.proofs.Polygons.{others_none, others_length}
 use lib.ListN.{length}
 use mathlib.Core.Path.{sym, ap}

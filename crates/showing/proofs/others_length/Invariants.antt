@@ -4,7 +4,7 @@ use Rattle.chart.specs.Recorded.{triangles_from}
 use Rattle.chart.specs.Words.{others, triangle_text}
 use lib.ListN.{length}
 use mathlib.Core.List.{map}
-use mathlib.Core.Path.{◌≡◌, ap}
+use mathlib.Core.Path.{◌≡◌}
 use Rattle.showing.proofs.others_length.Given as goal
 
 abbrev pub invariant-loop-done : goal.invariant-loop-done

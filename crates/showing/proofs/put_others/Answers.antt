@@ -1,10 +1,7 @@
 -- Each turn puts one more behind those before.
-use Prim.Native.Nat.{◌-◌}
-use Rattle.chart.specs.Words.{others}
 use Rattle.polygons.proofs.Stores.{still}
 use Rattle.showing.proofs.Polygons.{others_none, others_more, for_other}
 use Rattle.text.proofs.Room.{Put-none, put_two, put_as}
-use Rattle.text.specs.Room.{Put}
 use mathlib.Core.Path.{sym}
 use native.Mathlib.Omega.{arith}
 use Rattle.showing.proofs.put_others.Goals as goal

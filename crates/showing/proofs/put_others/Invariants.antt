@@ -4,7 +4,6 @@ use Rattle.chart.specs.Recorded.{triangles_from}
 use Rattle.chart.specs.Words.{others, triangle_text}
 use Rattle.text.specs.Room.{Put}
 use mathlib.Core.List.{map}
-use mathlib.Core.Path.{ap}
 use Rattle.showing.proofs.put_others.Given as goal
 
 abbrev pub invariant-loop-done : goal.invariant-loop-done

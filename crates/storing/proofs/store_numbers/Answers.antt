@@ -1,11 +1,9 @@
 -- Before each turn the numbers so far stand in the room, one behind the other.
-use Prim.Native.Nat.{◌-◌}
 use mathlib.Core.Path.{refl, ap}
 use native.Mathlib.Omega.{arith}
-use Rattle.text.specs.Room.{Put}
 use Rattle.text.proofs.Room.{put_as}
 use Rattle.filing.proofs.Joined.{joined_none, joined_next, joined_more}
-use Rattle.filing.specs.File.{in_four, joined}
+use Rattle.filing.specs.File.{in_four}
 use Rattle.storing.proofs.Stores.{bytes_of, all_Put}
 use Rattle.storing.proofs.store_numbers.Goals as goal
 

@@ -1,6 +1,5 @@
 -- What is left to copy gives the room that is to be.
-use Prim.Native.Nat.{◌-◌}
-use lib.ListN.{length, drop}
+use lib.ListN.{length}
 use lib.Seq.{drop-length}
 use mathlib.Core.Path.{◌≡◌}
 use native.Mathlib.Omega.{arith}

@@ -1,5 +1,5 @@
 -- From the last digit to the first, what is left to put gives the room that is to be.
-use lib.ListN.{length, length-set}
+use lib.ListN.{length-set}
 use mathlib.Core.Path.{◌≡◌, sym, ◌∙◌}
 use native.Mathlib.Omega.{arith}
 use Rattle.text.proofs.Laws.{digits_turn, digits_none, digits-length}

@@ -1,6 +1,5 @@
 -- A place is put behind the others where there is room.
 use mathlib.Core.Path.{refl}
-use mathlib.Core.Bool.{true}
 use Rattle.floats.proofs.Lists.{taken, left}
 use Rattle.walk.specs.Code.{pushed}
 use Rattle.walk.proofs.push.Goals as goal

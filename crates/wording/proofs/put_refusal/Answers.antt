@@ -1,5 +1,5 @@
 -- Two words with their numbers, then a line feed, if there is room for them.
-use Prim.Native.Nat.{◌+◌, ◌-◌}
+use Prim.Native.Nat.{◌+◌}
 use native.Mathlib.Omega.{arith}
 use Rattle.layout.specs.Verdict.{number_at}
 use Rattle.wording.proofs.Lines.{refused_length, refused_is}

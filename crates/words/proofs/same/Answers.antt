@@ -1,7 +1,5 @@
 -- What is left to compare decides.
-use Prim.Native.Nat.{◌-◌}
 use Rattle.words.proofs.Ids.{same_turn, same_stop, same_end, other_length}
-use Rattle.words.specs.Id.{same}
 use lib.ListN.{length}
 use mathlib.Core.Path.{◌≡◌, sym, ◌∙◌}
 use native.Mathlib.Omega.{arith}

@@ -1,6 +1,6 @@
 -- What is left to read gives the number of all.
-use Prim.Native.Nat.{◌+◌, ◌*◌, ◌-◌}
-use Rattle.text.specs.Decimal.{read_on, read}
+use Prim.Native.Nat.{◌+◌, ◌*◌}
+use Rattle.text.specs.Decimal.{read_on}
 use Rattle.words.proofs.Ids.{read_turn, read_all, too_large, in_range_lem}
 use lib.ListN.{length, drop}
 use mathlib.Core.Path.{◌≡◌, sym, ap, ◌∙◌}

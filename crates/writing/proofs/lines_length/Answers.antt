@@ -1,5 +1,4 @@
 -- Each turn adds one more line.
-use Prim.Native.Nat.{◌-◌}
 use lib.ListN.{length}
 use mathlib.Core.Path.{sym, ap}
 use native.Mathlib.Omega.{arith}

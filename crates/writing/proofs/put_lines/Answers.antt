@@ -1,7 +1,5 @@
 -- Each turn puts one more line behind those before.
-use Prim.Native.Nat.{◌-◌}
 use native.Mathlib.Omega.{arith}
-use Rattle.text.specs.Room.{Put}
 use Rattle.writing.proofs.Lines.{Put-no_line, Put-line_more}
 use Rattle.writing.proofs.put_lines.Goals as goal
 

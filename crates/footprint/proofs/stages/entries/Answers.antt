@@ -1,6 +1,5 @@
 -- Before each turn the entries that are left say what all say, and `end` is where those before end.
 use native.Mathlib.Omega.{arith}
-use Prim.Native.Nat.{◌-◌}
 use mathlib.Core.Path.{refl, sym, ap, ◌∙◌}
 use mathlib.Core.List.{[], ◌∷◌}
 use Rattle.layout.specs.Parts.{end_before, entry_from, entry_place}

@@ -1,6 +1,6 @@
 -- Before each turn the triangles that are left say what all say.
 use native.Mathlib.Omega.{arith}
-use Prim.Native.Nat.{◌-◌, ◌/◌}
+use Prim.Native.Nat.{◌/◌}
 use mathlib.Core.Path.{refl, sym, ◌∙◌}
 use mathlib.Core.List.{[]}
 use Rattle.layout.specs.Parts.{triangle_place}

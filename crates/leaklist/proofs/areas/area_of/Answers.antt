@@ -1,5 +1,4 @@
 -- Each turn adds one more absolute cross.
-use Prim.Native.Nat.{◌-◌}
 use native.Mathlib.Omega.{arith}
 use Rattle.leaklist.proofs.Sizes.{sum_none, sum_turn}
 use Rattle.leaklist.proofs.areas.area_of.Goals as goal

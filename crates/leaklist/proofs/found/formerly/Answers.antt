@@ -1,5 +1,4 @@
 -- Each turn looks at the set of one more entry of the table.
-use Prim.Native.Nat.{◌-◌}
 use mathlib.Core.Path.{◌≡◌, ap, ◌∙◌}
 use native.Mathlib.Omega.{arith}
 use Rattle.sets.specs.Sets.{is_retired}

@@ -1,5 +1,4 @@
 -- Each turn adds what is found of one more recording.
-use Prim.Native.Nat.{◌-◌}
 use borrow.Author.Rules.{rules}
 use mathlib.Core.Path.{ap}
 use native.Mathlib.Omega.{arith}

@@ -1,5 +1,4 @@
 -- Each turn puts the box of one more triangle.
-use Prim.Native.Nat.{◌-◌}
 use native.Mathlib.Omega.{arith}
 use Rattle.leaklist.proofs.Frames.{frame_turn}
 use Rattle.leaklist.proofs.framed.frame.Goals as goal

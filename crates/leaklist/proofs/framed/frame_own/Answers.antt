@@ -1,5 +1,4 @@
 -- Each turn puts the own box of one more recording.
-use Prim.Native.Nat.{◌-◌}
 use native.Mathlib.Omega.{arith}
 use Rattle.leaklist.proofs.Frames.{own_turn}
 use Rattle.leaklist.proofs.framed.frame_own.Goals as goal

@@ -1,11 +1,11 @@
 -- Each turn prepares one more triangle.
-use Prim.Native.Nat.{◌+◌, ◌-◌, ◌*◌}
+use Prim.Native.Nat.{◌+◌, ◌*◌}
 use lib.ListN.{length}
 use mathlib.Core.Path.{ap, ◌∙◌}
 use native.Mathlib.Omega.{arith}
 use Rattle.text.proofs.Room.{laid-length}
 use Rattle.leaklist.proofs.Table.{Prepared-turn, shape_read, Prepared-as}
-use Rattle.leaklist.specs.Code.{Prepared, eleven_of}
+use Rattle.leaklist.specs.Code.{eleven_of}
 use Rattle.leaklist.proofs.prepared.prepare.Goals as goal
 
 pub loop-k-preserved : goal.loop-k-preserved

@@ -1,10 +1,6 @@
 -- Each turn counts one more pair that is near, and goes on to the next.
-use Prim.Native.Nat.{◌+◌, ◌-◌}
-use borrow.Author.Rules.{rules}
-use mathlib.Core.Path.{ap}
-use mathlib.Core.Bool.{true}
+use Prim.Native.Nat.{◌+◌}
 use native.Mathlib.Omega.{arith}
-use Rattle.listing.specs.Pairs.{tallied}
 use Rattle.leaklist.proofs.Counted.{row_start, row_on, row_turn}
 use Rattle.leaklist.proofs.tallies.row.Goals as goal
 

@@ -1,6 +1,6 @@
 -- Each turn counts one more pair that is near, and goes on to the next.
 use Prim.Native.Nat.{◌<◌, ◌≤◌, ◌+◌, ◌-◌}
-use mathlib.Core.Path.{◌≡◌, ap}
+use mathlib.Core.Path.{◌≡◌}
 use mathlib.Core.Bool.{true}
 use Rattle.boxes.specs.Boxes.{share_point}
 use Rattle.boxed.specs.Tables.{box_in}

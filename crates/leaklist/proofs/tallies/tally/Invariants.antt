@@ -1,6 +1,6 @@
 -- Each turn counts one more row, and goes on to the next triangle that is near the others.
 use Prim.Native.Nat.{◌≤◌, ◌+◌, ◌-◌, ◌*◌}
-use mathlib.Core.Path.{◌≡◌, ap}
+use mathlib.Core.Path.{◌≡◌}
 use Rattle.leaklist.specs.Code.{tally_in}
 use Rattle.leaklist.proofs.tallies.tally.Given as goal
 

@@ -1,6 +1,5 @@
 -- Each turn lays one more position.
 use mathlib.Core.Path.{refl}
-use Prim.Native.Nat.{◌-◌}
 use native.Mathlib.Omega.{arith}
 use Rattle.routine.specs.Code.{spots_to, fine_to}
 use Rattle.routine.proofs.Decoded.{looked_up}
