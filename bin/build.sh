@@ -16,8 +16,7 @@ describe() { # crate
     needs=() crates=("$1") parts=()
     while IFS= read -r line || [ -n "$line" ]; do
         line="${line%%#*}"
-        crate="${line%%:*}"
-        crate="${crate//[[:blank:]]/}"
+        read -r crate _ <<<"${line%%:*}" # behind the name of the library for C stands a word
         [[ $line != *:* || -z $crate ]] || needs[$crate]="${line#*:}"
     done 2>/dev/null <"$root/crates.txt" || return 1
     for ((i = 0; i < ${#crates[@]}; i++)); do
@@ -91,16 +90,11 @@ see_to() { # crate
     fi
 }
 
-# Sets `program`, the words that run it. Elsewhere than on x86-64 they are those of rt, with the kit's emulator.
+# Sets `program`, the words that run it.
 find_program() { # program
+    [ "$(uname -m)" = x86_64 ] || cannot 'the program is x86-64 code, which cannot run on this machine'
     see_to "$1"
     program=("$root/${made[0]}")
-    [ "$machine" != x86_64 ] || return 0
-    local guide tools
-    guide="$(rt doc)" || cannot "'rt' of the Rattle kit, which has the emulator, cannot be run"
-    tools="${guide%/docs/*}/on/$machine/toolchain"
-    unset -v "${!QEMU_@}"
-    program=("$tools/bin/qemu-x86_64" "$tools/lib/ld-linux-x86-64.so.2" --library-path "$tools/lib" "$root/${made[0]}")
 }
 
 # The library that python/meskelow.py loads.
@@ -142,53 +136,31 @@ nap() {
     wait -n || :
 }
 
-# Prints those of some crates that no other of them needs.
-highest() { # crates
-    local crate above
-    local -a found=()
-    for crate; do
-        for above; do
-            [[ " ${needs[$above]} " != *" $crate "* ]] || continue 2
-        done
-        found+=("$crate")
-    done
-    printf '%s\n' "${found[*]}"
-}
-
 build() { # crate
-    local kit before after making step='' stamp="$root/target/stamp/$1" steps tool ended=0
+    local kit before after making step='' steps=("bin/make $1") log="$root/target/log/$1" tool ended=0
     local written="cannot write below $root/target" changed='the sources were changed while they were proved: start again'
     local lacks="the $kind is not built, or was built from other sources, and"
     command -v rt >/dev/null || cannot "$lacks 'rt' of the Rattle kit is not on the path"
-    case "$kind" in
-    program) steps=("rt check $1") ;;
-    library)
-        # By itself rt staticlib would prove all crates one after the other.
-        steps=("rt check $(highest "${crates[@]:1}")" "rt staticlib $1" 'python3 -E -s -B python/meskelow.py build')
+    if [ "$kind" = library ]; then
+        steps+=('python3 -E -s -B python/meskelow.py build')
         for tool in python3 gcc; do
             command -v "$tool" >/dev/null || cannot "$lacks '$tool' is not on the path"
         done
-        ;;
-    esac
+    fi
     kit="$(rt version)" || cannot "'rt' of the Rattle kit cannot be run"
     say "proving and building the $kind, which takes minutes if it is new"
     building=yes
     settle || : # a build that was killed
     { describe "$1" && before="$(contents)"; } || cannot "cannot read the sources in $root/crates"
-    # rt compares sources alone. It makes the program again, unless that is as it was when rt stamped it, which without a record only the kernel's times tell.
-    # A library it makes always.
-    [[ $kind = program && ! -e $record && -e $root/${made[0]} && -e $stamp && -z "$(find "$root/${made[0]}" -newercc "$stamp" 2>&1)" ]] ||
-        (cd "$root" && rm -f "${made[@]}" "$stamp") || cannot "$written"
-    { rm -f "$record" && mkdir -p "$root/target/built" && printf '%s %(%s)T\n%s\n' "$1" -1 "$before" >"$mark"; } || cannot "$written"
-    # What rt leaves in its temporary directory goes with that of this script. It runs programs there, as nobody if it is root.
-    chmod 711 "$scratch"
-    : >"$scratch/said" || cannot 'cannot write to the temporary directory'
-    # Four checks at a time: rt begins the next only when all that run have ended, and of two one is soon waiting for the other.
+    # What rt has built it builds again only if that is not as it was, and bin/make lays only what is another in its place. The library that Python loads is made anew.
+    [ "$kind" = program ] || (cd "$root" && rm -f "${made[@]}") || cannot "$written"
+    { rm -f "$record" && mkdir -p "$root"/target/{built,log} && : >"$log" && printf '%s %(%s)T\n%s\n' "$1" -1 "$before" >"$mark"; } || cannot "$written"
+    # What rt leaves in its temporary directory goes with that of this script.
     # shellcheck disable=SC2016 # a line for another shell
     (
         trap - PIPE XFSZ
-        cd "$root" && TMPDIR="$scratch" RT_JOBS="${RT_JOBS:-4}" exec setsid /bin/bash -pc 'for step; do echo "$step" >"$0" && $step || exit; done' "$scratch/step" "${steps[@]}"
-    ) >"$scratch/said" 2>&1 </dev/null &
+        cd "$root" && TMPDIR="$scratch" exec setsid /bin/bash -pc 'for step; do echo "$step" >"$0" && $step || exit; done' "$scratch/step" "${steps[@]}"
+    ) >"$log" 2>&1 </dev/null &
     making=$!
     while kill -0 "$making" 2>/dev/null; do
         progress
@@ -197,11 +169,10 @@ build() { # crate
     wait "$making" || ended=$?
     progress
     erase
-    chmod 700 "$scratch"
     settle || cannot "$changed"
     building=
     if [ "$ended" -ne 0 ]; then
-        cat "$scratch/said" >&2 || :
+        cat "$log" >&2 || :
         { IFS= read -r step <"$scratch/step"; } 2>/dev/null || :
         cannot "the $kind is not built: '$step' failed"
     fi
@@ -210,7 +181,7 @@ build() { # crate
     { printf '%s\n' "kit $kit" "machine $machine" "$after" >"$record.new" && mv "$record.new" "$record"; } || cannot "$written"
 }
 
-# Ends the build that the mark tells of. If a source was changed meanwhile, rt may have stamped one state of it and proved another: then no stamp is kept.
+# Ends the build that the mark tells of. If a source was changed meanwhile and put back, rt may have stamped one state of it and built another: then no stamp is kept.
 settle() {
     local built began before='' crate changed=1
     { read -r built began && IFS= read -r -d '' before; } 2>/dev/null <"$mark" || [ -n "$before" ] || return 0
@@ -220,7 +191,7 @@ settle() {
         changed=0
     else
         for crate in "${crates[@]}"; do
-            rm -f "$root/target/stamp/$crate"
+            rm -f "$root/crates/$crate/out"/{rlib/stamp,"$crate.stamp"}
         done
     fi
     rm -f "$mark"
@@ -230,31 +201,26 @@ settle() {
 watched=               # the mark of the build whose progress is shown
 declare -A finished=() # the crates that it has proved
 
-# Shows how far the build is that the mark tells of: on a terminal in place, elsewhere by a line for each crate that is proved.
+# Shows how far the build is that the mark tells of: on a terminal in place, elsewhere by a line for each crate that is proved. rt says of a crate that was proved before
+# nothing, and not how many are to come.
 progress() {
-    local built began now crate log proved lines i under_way=''
+    local built began now lines line last='' crate=''
     { read -r built began <"$mark" && [ -n "$began" ]; } 2>/dev/null || return 0
     if [ "$watched" != "$built $began" ]; then
         watched="$built $began" finished=()
-        describe "$built" || return 0
     fi
     printf -v now '%(%s)T' -1
-    for ((i = ${#crates[@]} - 1; i >= 0; i--)); do
-        crate="${crates[i]}"
-        # rt opens this file when it begins with the crate, and the last line is its own; of a library itself it has only what the prover says.
-        log="$root/target/log/$crate.out" proved="rt: $crate proved "
-        [ "$i:$kind" != 0:library ] || log="$root/target/log/$crate.say" proved='logic=proved '
-        if [ -n "${finished[$crate]-}" ] || [ ! "$log" -nt "$mark" ]; then continue; fi
-        mapfile -t lines <"$log"
-        case "${lines[*]: -1}" in
-        "rt: $crate proved (unchanged "*) finished[$crate]=yes ;;
-        "rt: $crate NOT PROVED"* | "$proved"*' foreign='*) ;;
-        "$proved"*)
+    { mapfile -t lines <"$root/target/log/$built"; } 2>/dev/null || return 0
+    for line in ${lines[@]+"${lines[@]}"}; do
+        case "$line" in
+        'crate '*': modules '*) crate="${line#crate }" crate="${crate%%:*}" ;;
+        'logic=proved '*)
+            last="proved $crate"
+            if [ -z "$crate" ] || [ -n "${finished[$crate]-}" ]; then continue; fi
             finished[$crate]=yes
-            [ -t 2 ] || say "proved ${#finished[@]} of ${#crates[@]} crates, $crate ($((now - began)) s so far)"
+            [ -t 2 ] || say "proved $crate ($((now - began)) s so far)"
             ;;
-        *) under_way+=", $crate" ;;
         esac
     done
-    [ ! -t 2 ] || in_place "$name: proved ${#finished[@]} of ${#crates[@]} crates${under_way/,/, proving} ($((now - began)) s so far)"
+    [ ! -t 2 ] || in_place "$name: ${last:-proving} ($((now - began)) s so far)"
 }

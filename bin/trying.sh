@@ -3,13 +3,12 @@
 # commands are.
 # shellcheck disable=SC2016,SC2034,SC2154 # lines for another shell; what the test uses and sets
 set -euo pipefail
-unset CDPATH BASH_ENV RT_JOBS MESKELOW_CALLED
+unset CDPATH BASH_ENV MESKELOW_CALLED
 
 scratch="$(readlink -f "$(mktemp -d)")"
 trap 'rm -rf "$scratch"' EXIT
 export TMPDIR="$scratch/temporary"
 mkdir "$TMPDIR"
-chmod 711 "$scratch" # where rt is root, it runs programs below as nobody
 
 tried=0 wrong=0
 
@@ -95,11 +94,11 @@ mkdir -p "$tree"/{tools,python,examples} "$tree"/crates/{floats,lines,leaks,wkt,
 cp -r "$bin" "$tree/bin"
 cp "$bin/../refusals.tsv" "$tree"
 cp "$bin/../examples/night.footprint" "$tree/examples"
-printf '%s\n' '# The crates.' 'floats:' 'lines: floats' 'leaks: lines floats io libc' 'wkt: lines floats io libc' 'meskelow: lines floats' 'other: floats' >"$tree/crates.txt"
+printf '%s\n' '# The crates.' 'floats:' 'lines: floats' 'leaks: lines floats' 'wkt: lines floats' 'meskelow staticlib: lines floats' 'other: floats' >"$tree/crates.txt"
 for source in crates/{floats,lines,meskelow,other}/src/lib.rt crates/{leaks,wkt}/src/main.rt python/{meskelow,draw}.py; do
     echo 1 >"$tree/$source"
 done
-for tool in cat chmod cmp dirname find flock grep mkdir mktemp mv readlink rm setsid sha256sum sleep sort stty xargs; do
+for tool in cat chmod cmp cp dirname find flock grep mkdir mktemp mv readlink rm setsid sha256sum sleep sort stty xargs; do
     ln -s "$(command -v "$tool")" "$tree/tools/$tool"
 done
 # By -p a stand-in hears as little of the environment as a program does.
@@ -110,56 +109,70 @@ tool() { # name, what it does
 tool uname 'echo x86_64'
 tool gcc 'exit 9'
 echo 'a kit' >"$scratch/kit"
-# rt notes its calls and all that it can read. Then it does what is said, by default what rt does: a crate is proved if it has changed, or what it needs.
-# A library is a copy of its source, and an archive has its own number and those of the other two. A program prints a list whose one leak line has the numbers
-# of all three.
+# rt notes its calls and all that it can read. Then it does what is said, by default what rt does: a crate is proved if it has changed, or what it needs, and it says
+# nothing of one that has not. It goes by what it reads before it begins, and stamps a program only if that is so still. A library is a copy of its source, and an
+# archive has its own number and those of the other two. A program prints a list whose one leak line has the numbers of all three, and rt runs it.
 cat >"$scratch/as_rt" <<'END'
-proves() { # crate, stamps of what it needs
-    local log="target/log/$1.out"
-    [[ $asked = check* ]] || log=/dev/stderr
-    echo failed >"target/log/$1.res"
-    {
-        stamp="$(cat "crates/$1/src"/* "${@:2}")"
-        if [ "$stamp" = "$(<"target/stamp/$1")" ]; then
-            echo "rt: $1 proved (unchanged since it was last proved)"
-        else
-            rm -f "target/stamp/$1"
-            during "$1"
-            if [ -e "crates/$1/src/main.rt" ]; then links "$1"; else cp "crates/$1/src/lib.rt" "target/rlib/$1"; fi
-            echo "rt: $1 proved (0 s)"
-            echo "$stamp" >"target/stamp/$1"
-            echo proved >"target/log/$1.res"
-        fi
-    } 2>/dev/null >"$log"
+sources() { # crates
+    local crate
+    for crate; do cat "$tree/crates/$crate"/{src,specs}/* 2>/dev/null; done
+}
+proves() { # crate, and what it needs
+    local out="$tree/crates/$1/out" now
+    mkdir -p "$out/rlib"
+    now="$(sources "$@")"
+    if [ "$now" = "$(cat "$out/rlib/stamp" 2>/dev/null)" ]; then return; fi
+    rm -f "$out/rlib/stamp"
+    during "$1"
+    [ -e "$tree/crates/$1/src/main.rt" ] || cp "$tree/crates/$1/src/lib.rt" "$out/rlib/made"
+    echo "fn $1::f: proved"
+    echo "crate $1: modules loaded=9 checked=1"
+    echo 'logic=proved functions=1'
+    [ "$now" != "$(sources "$@")" ] || echo "$now" >"$out/rlib/stamp"
 }
 during() { :; } # crate
+made_of() { # crate
+    cat "$tree/crates/$1/out/rlib/made"
+}
 links() { # program
     printf '#!/bin/bash -p\necho leaks 1; echo "test %s train %s pairs %s"; echo touching 0; echo formerly held back 0\n' \
-        "$(<"crates/$1/src/main.rt")" "$(<target/rlib/floats)" "$(<target/rlib/lines)" >"target/bin/$1"
-    chmod +x "target/bin/$1"
+        "$(<"$tree/crates/$1/src/main.rt")" "$(made_of floats)" "$(made_of lines)" >"out/$1"
+    chmod +x "out/$1"
+}
+stamped() { # program
+    sources "$1" lines floats
+    sha256sum "out/$1"
+}
+programs() { # program
+    local now
+    if [ "$(stamped "$1")" != "$(cat "out/$1.stamp" 2>/dev/null)" ]; then
+        rm -f "out/$1.stamp"
+        now="$(sources "$1" lines floats)"
+        proves "$1" lines floats
+        links "$1"
+        [ "$now" != "$(sources "$1" lines floats)" ] || stamped "$1" >"out/$1.stamp"
+    fi
+    echo "rt: running out/$1"
+    "out/$1" >&3
 }
 archives() { # library
-    : >"target/log/$1.say"
-    during "$1"
-    cat "crates/$1/src/lib.rt" target/rlib/{floats,lines} >"target/staticlib/lib$1.a"
-    echo 'logic=proved functions=7' >>"target/log/$1.say"
+    proves "$1" lines floats
+    { cat "src/lib.rt" && made_of floats && made_of lines; } >"out/lib$1.a"
 }
 checks() {
-    mkdir -p target/{bin,log,rlib,stamp,staticlib}
     proves floats
-    proves lines target/stamp/floats
+    proves lines floats
     case "$asked" in
-    'check leaks' | 'check wkt') proves "${asked#* }" target/stamp/{lines,floats} ;;
-    'check lines') ;;
-    'staticlib meskelow') archives "${asked#* }" ;;
+    'leaks run' | 'wkt run') programs "${asked% *}" ;;
+    'meskelow lib') archives "${asked% *}" ;;
     *) exit 2 ;;
     esac
 }
 END
 declare -f await >>"$scratch/as_rt"
 rt() { # what it does, over what as_rt has
-    tool rt "case \"\$1\" in version) read -r kit <$scratch/kit; echo \"\$kit\"; exit ;; doc) exit 2 ;; esac
-        asked=\"\$*\"; echo \"\$PWD \$* \$RT_JOBS\" >>$scratch/calls; cat >>$scratch/calls; echo some output; . $scratch/as_rt; $1"
+    tool rt "case \"\$1\" in version) read -r kit <$scratch/kit; echo \"\$kit\"; exit ;; esac
+        exec 3>&1 1>&2; tree=$tree; asked=\"\${PWD##*/} \$*\"; echo \"\$PWD \$*\" >>$scratch/calls; cat >>$scratch/calls; echo some output; . $scratch/as_rt; $1"
 }
 # Python's library is the archive, with its time, and a picture has the same three numbers.
 cat >"$scratch/as_python" <<'END'

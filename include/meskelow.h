@@ -2,7 +2,7 @@
  * and the writer of footprint files, also of files that arrive in pieces, their recordings as well-known text and the leak list,
  * proved against their rules (docs/RULES.md).
  *
- * Link target/staticlib/libmeskelow.a, which `rt staticlib meskelow` makes: x86-64 Linux code that calls nothing but the C
+ * Link target/staticlib/libmeskelow.a, which `bin/make meskelow` makes: x86-64 Linux code that calls nothing but the C
  * library's memcpy and memset, allocates nothing, keeps no state and may be called from any number of threads at once. meskelow_leaks
  * needs 400 KB of stack, the others a few KB.
  *

@@ -41,7 +41,7 @@ returns is an answer.
 
 The library has to be made first, and again whenever the static library has changed:
 
-    rt staticlib meskelow && python3 python/meskelow.py build
+    bin/make meskelow && python3 python/meskelow.py build
 
 It is x86-64 Linux code, for a Python of that kind. Any number of threads may call it at once. `leaks` needs 400 KB of stack: a
 thread has that, unless `threading.stack_size` or the system gave it less than 512 KB.
@@ -438,7 +438,7 @@ def build() -> None:
     import subprocess  # which no other function needs
 
     if not ARCHIVE.exists():
-        raise LibraryError(f"there is no {ARCHIVE}: run 'rt staticlib meskelow'")
+        raise LibraryError(f"there is no {ARCHIVE}: run 'bin/make meskelow'")
     compiler = "gcc" if platform.machine() == "x86_64" else "x86_64-linux-gnu-gcc"
     LIBRARY.parent.mkdir(parents=True, exist_ok=True)
     unfinished = LIBRARY.with_suffix(f".{os.getpid()}")
@@ -527,7 +527,7 @@ _FUNCTIONS = {
 
 @functools.lru_cache(maxsize=None)
 def _library() -> ctypes.CDLL:
-    to_build = "run 'rt staticlib meskelow && python3 python/meskelow.py build'"
+    to_build = "run 'bin/make meskelow && python3 python/meskelow.py build'"
     if not LIBRARY.exists():
         raise LibraryError(f"there is no {LIBRARY}: {to_build}")
     if ARCHIVE.exists() and ARCHIVE.stat().st_mtime_ns != LIBRARY.stat().st_mtime_ns:

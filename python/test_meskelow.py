@@ -1813,7 +1813,7 @@ class Errors(Case):
         self.assertIn(words, str(caught.exception))
 
     def nothing_works(self, words):
-        for text in (words, "run 'rt staticlib meskelow && python3 python/meskelow.py build'"):
+        for text in (words, "run 'bin/make meskelow && python3 python/meskelow.py build'"):
             self.says(text, meskelow.intersect, A, V)
             self.says(text, meskelow.decide, A, V)
             self.says(text, meskelow.corners, A, V)
@@ -1837,7 +1837,7 @@ class Errors(Case):
     def test_no_archive(self):
         self.put("ARCHIVE", pathlib.Path("/nowhere/libmeskelow.a"))
         self.assertIsNone(meskelow.check(LEAK))
-        self.says("run 'rt staticlib meskelow'", meskelow.build)
+        self.says("run 'bin/make meskelow'", meskelow.build)
 
     def test_what_is_no_library(self):
         self.put("ARCHIVE", pathlib.Path("/nowhere/libmeskelow.a"))

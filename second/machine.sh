@@ -29,7 +29,7 @@ fail() { # message
 }
 
 need_archive() {
-    [ -f "$archive" ] || fail "there is no $archive; 'rt staticlib meskelow' makes it"
+    [ -f "$archive" ] || fail "there is no $archive; 'bin/make meskelow' makes it"
 }
 
 # On standard error, because standard output is for the answers of programs.
