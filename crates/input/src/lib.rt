@@ -88,6 +88,7 @@ fn handed(part: &[u8], k: usize, arrived: u32, buffer: &mut [u8]) -> Arrival
 }
 
 // Hands what each read brings over as a piece of the file, until the input ends, a read fails or more has arrived than a file may have. Where the buffer has another length than 65,536 nothing is read, as if that had failed.
+#[tactic(auto, using(crate::proofs::Nothing::nothing_read))]
 pub fn read_all<R: Read>(reader: &mut R, buffer: &mut [u8]) -> Got
     ensures { Gathered buffer.old result buffer.new }
 {

@@ -1,15 +1,14 @@
 -- Each turn's bytes are a piece of the run so far, and they are some, so that the count grows; or the turn is the last.
 use Rattle.std.proofs.Common.{rules}
-use Prim.Native.Nat.{ℕ, ◌+◌, ◌<◌, ◌≤◌, ◌-◌, min}
+use Prim.Native.Nat.{ℕ, ◌+◌, ◌<◌, min}
 use mathlib.Core.Path.{◌≡◌, sym, ap, ◌∙◌}
-use mathlib.Core.Bool.{false≢true}
 use mathlib.Core.List.{List}
 use native.Mathlib.Omega.{arith}
 use lib.ListN.{length, take}
 use lib.Seq.{length-take-le}
 use Rattle.arrival.proofs.Further.{none_so_far, counted_on, one_more}
 use Rattle.input.specs.declared.Piece.{Piece}
-use Rattle.input.specs.declared.Piece.TheVariants.{Failed, More}
+use Rattle.input.specs.declared.Piece.TheVariants.{More}
 use Rattle.input.proofs.Within.{more_within}
 use Rattle.input.specs.Answer.{Took}
 use Rattle.input.proofs.read_all.Goals as goal
@@ -19,12 +18,6 @@ brought : (part : List ℕ) {k : ℕ} {t : Piece} → Took (length part) t → t
 brought part {k} t e =
     let h = more_within (length part) t.0 k (sym t.2 ∙ e) in
     (h.0, length-take-le k part h.1)
-
-pub returns-then-buffer-ne-SIZE : goal.returns-then-buffer-ne-SIZE
-returns-then-buffer-ne-SIZE g c = record { so_far = none_so_far _; size = λ e. absurd (false≢true e); too_many = λ k e. absurd (failed_not e) }
-  where
-    failed_not : {k : ℕ} → Failed ≡ More k → ⊥
-    failed_not {k} e = let z : ◌≡◌ {A = ℕ} 0 1 = cc in omega (arith, z)
 
 pub loop-arrived-init : goal.loop-arrived-init
 loop-arrived-init g c = (none_so_far _, search rules, omega arith)
