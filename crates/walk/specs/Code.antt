@@ -35,7 +35,7 @@ at_corner m a b = m * 2 ^ (2 - corner_on a b) % 65536
 
 -- s: the signs at the edges' lower ends. c: the lines that they cross, the last three digits of the entry. o: their orders, by corner: whether the corner's lower line is met before its upper one.
 -- x, y and w: whether the line is crossed. sx, sy and sw: whether the lower end is plus there.
--- xOnY: where an edge crosses x, its sign on y, which is that of the walk at that moment: of its lower end, or turned if y was crossed before; the five others likewise.
+-- x_on_y: where an edge crosses x, its sign on y, which is that of the walk at that moment: of its lower end, or turned if y was crossed before; the five others likewise.
 -- on: which crossings lie on V's edge, being plus on both other lines.
 -- beside: of each corner of V, whether the edge crosses the corner's lower line on the plus side of its upper one; a corner is in U if of the lower line's two crossings one alone does
 unfoldable pub edges_tell : ℕ → ℕ → ℕ → Edges
