@@ -153,13 +153,13 @@ hears_no_environment() { # all or less
 
 # ---- a stand-in
 
-# In the tree. What answers does what a file says, so that it stays as it was built: it writes bytes, and goes on.
+# In the tree. What answers does what a file says, so that it stays as it was built: it writes bytes, and goes on. rt's own run of it is left out.
 stand_in() { # bytes, as for printf %b; what is done then
     printf '%b' "$1" >"$scratch/bytes"
     echo "${2-}" >"$scratch/then"
 }
-rt "links() { printf '#!/bin/bash -p\nPATH=%q; words=(\"\$@\"); . %q; cat %q; . %q\n' '$PATH' '$scratch/first' '$scratch/bytes' '$scratch/then' >\"target/bin/\$1\"
-    chmod +x \"target/bin/\$1\"; }; checks"
+rt "links() { printf '#!/bin/bash -p\nPATH=%q; words=(\"\$@\"); . %q; cat %q; . %q\n' '$PATH' '$scratch/first' '$scratch/bytes' '$scratch/then' >\"out/\$1\"
+    chmod +x \"out/\$1\"; }; runs() { :; }; checks"
 python "draws() { words=(\"\$@\"); . $scratch/first; cat $scratch/bytes; . $scratch/then; }; acts \"\$@\""
 # Before that it notes the words that it was called with.
 echo "echo \"\${words[*]@Q}\" >$scratch/words" >"$scratch/first"

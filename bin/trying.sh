@@ -153,6 +153,9 @@ programs() { # program
         [ "$now" != "$(sources "$1" lines floats)" ] || stamped "$1" >"out/$1.stamp"
     fi
     echo "rt: running out/$1"
+    runs "$1"
+}
+runs() { # program
     "out/$1" >&3
 }
 archives() { # library
