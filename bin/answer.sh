@@ -1,5 +1,5 @@
 # shellcheck shell=bash
-# How a command answers: it takes a file, has a program say what is to be said of it, and prints that. The programs in Rattle have one exit status, and what they have
+# How a command answers: it takes a file, has a program say what is to be said of it, and prints that. The proved programs have one exit status, and what they have
 # written cannot be taken back if something fails later. So its output is collected, and printed only if it is whole. For a command that has command.sh and
 # build.sh; bin/commands/ has a file for each.
 # shellcheck disable=SC2034,SC2154,SC2317 # the command's own; called by what it reads

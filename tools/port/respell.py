@@ -598,7 +598,7 @@ def fits(crate, text, texts):
     return ok
 
 
-PRELUDE = os.path.join(os.path.dirname(os.path.dirname(os.path.realpath(shutil.which("rt") or "/opt/rattle/bin/rt"))), "rattle/std/specs/Prelude.antt")
+PRELUDE = os.path.join(os.path.dirname(os.path.dirname(os.path.realpath(shutil.which("rt") or sys.exit("respell: no rt on the path")))), "rattle/std/specs/Prelude.antt")
 
 
 def prelude():

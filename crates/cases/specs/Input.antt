@@ -1,5 +1,5 @@
 -- What a reader's bytes leave in a room. Definitions only.
-use Rattle.std.specs.Prelude.{ℕ, ◌<◌, List, length, take}
+use Rattle.std.specs.Prelude.{ℕ, ◌<◌, ◌≤◌, List, length, take}
 use Rattle.std.specs.declared.option.Option.{Option}
 use Rattle.std.specs.Io.KnownBytes.{Consumes, IsAtEnd}
 
@@ -7,3 +7,7 @@ use Rattle.std.specs.Io.KnownBytes.{Consumes, IsAtEnd}
 pub record FilledBy (before after : Option (List ℕ)) (n : ℕ) (room : List ℕ) : Type 0 where
   pub bytes : Consumes before after (take n room)
   pub to_end : n < length room → IsAtEnd after
+
+-- where a read failed: what had come before, some number of bytes, stands there in the same way
+abbrev pub CameBefore : Option (List ℕ) → Option (List ℕ) → List ℕ → Type 0
+CameBefore before after room = (n : ℕ) × (n ≤ length room) × Consumes before after (take n room)

@@ -1,21 +1,22 @@
 // Reading cases: a text in lines and words, and what the hexadecimal digits of a word stand for.
 #![tactic(auto)]
 
-ghost use Rattle.std.specs.Prelude.{IfOk, ◌≡◌, ◌+◌, ◌-◌, ◌*◌, ◌≤◌, ◌<◌, min, length};
+ghost use Rattle.std.specs.Prelude.{IfOk, OnErr, ◌≡◌, ◌+◌, ◌-◌, ◌*◌, ◌≤◌, ◌<◌, min, length};
 ghost use Rattle.std.specs.Float.{binary64};
 ghost use Rattle.std.specs.Float.Ieee.{of_bits, to_bits};
 ghost use Rattle.cases.specs.Digits.{digit_value, number_of, byte_of, fitting, filled, glyph as glyph_of, spelt, lettered};
 ghost use Rattle.cases.specs.Words.{until as until_of};
 ghost use Rattle.std.specs.Io.{ReadsAtMost};
-ghost use Rattle.cases.specs.Input.{FilledBy};
+ghost use Rattle.cases.specs.Input.{FilledBy, CameBefore};
 
 use std::io;
 use std::io::Read;
 
-// Reads until the room is full or the input ends; how many bytes came, which stand at the room's front.
+// Reads until the room is full or the input ends; how many bytes came, which stand at the room's front. Where a read fails, its error.
 pub fn read_input<R: Read>(reader: &mut R, room: &mut [u8]) -> io::Result<usize>
     ensures bound { ReadsAtMost result room.new }
     ensures filled { IfOk result (λ n. FilledBy (R.remaining reader.old) (R.remaining reader.new) n room.new) }
+    ensures failed { OnErr result (CameBefore (R.remaining reader.old) (R.remaining reader.new) room.new) }
 {
     let mut done: usize = 0;
     while done < room.len() {

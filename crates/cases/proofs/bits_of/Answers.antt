@@ -3,7 +3,7 @@ use mathlib.Core.Path.{◌≡◌, refl, sym, ap, ◌∙◌}
 use mathlib.Core.Bool.{Bool, true, false, beq, false≢true}
 use Prim.Native.Nat.{◌*◌}
 use borrow.Author.Tests.{eq-eqb}
-use lib.Ieee.{Float, nan, inf, fin, up, down, binary64, eq, is_nan, to_bits}
+use lib.Ieee.{Float, nan, inf, fin, up, down, binary64, eq, to_bits}
 use Rattle.cases.proofs.bits_of.Goals as goal
 
 same_sign : (s : Bool) → beq s s ≡ true

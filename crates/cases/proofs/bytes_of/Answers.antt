@@ -1,8 +1,7 @@
 -- What is left to lay gives the room that is to be.
-use Prim.Native.Nat.{◌-◌}
 use native.Mathlib.Omega.{arith}
 use mathlib.Core.Path.{sym, ◌∙◌}
-use lib.ListN.{length, length-set}
+use lib.ListN.{length-set}
 use Rattle.cases.proofs.Laws.{fill_turn, fill_end}
 use Rattle.cases.proofs.bytes_of.Goals as goal
 

@@ -1,8 +1,8 @@
 -- What is left to spell gives the room that is to be.
-use Prim.Native.Nat.{ℕ, ◌-◌, ◌*◌}
+use Prim.Native.Nat.{ℕ, ◌*◌}
 use native.Mathlib.Omega.{arith}
 use mathlib.Core.Path.{sym, ap, ◌∙◌}
-use lib.ListN.{length, length-set}
+use lib.ListN.{length-set}
 use Rattle.cases.proofs.Laws.{spell_turn, spell_end}
 use Rattle.cases.proofs.digits_of.Goals as goal
 

@@ -1,5 +1,4 @@
 -- Each turn takes one more digit.
-use Prim.Native.Nat.{◌-◌}
 use native.Mathlib.Omega.{arith}
 use Rattle.cases.proofs.Laws.{number_start, number_turn, number_end}
 use Rattle.cases.proofs.number_of.Goals as goal
