@@ -57,7 +57,7 @@ fn digit_of([first, second, third]: [bool; 3]) -> u16 {
 /// The table as a constant of a Rust program.
 pub fn source_text() -> String {
     let blocks: String = numbers().chunks(IN_A_BLOCK).map(block_text).collect();
-    format!("const TABLE: [[[u16; 4]; 16]; 8] = [\n{blocks}];\n")
+    format!("static TABLE: [[[u16; 4]; 16]; 8] = [\n{blocks}];\n")
 }
 
 fn block_text(block: &[u16]) -> String {
@@ -111,7 +111,7 @@ mod tests {
         let text = source_text();
         let lines: Vec<&str> = text.lines().collect();
         assert_eq!(lines.len(), 1 + 8 * (1 + 16 + 1) + 1);
-        assert!(text.starts_with("const TABLE: [[[u16; 4]; 16]; 8] = [\n    [\n        [0o0000, 0o0000,"));
+        assert!(text.starts_with("static TABLE: [[[u16; 4]; 16]; 8] = [\n    [\n        [0o0000, 0o0000,"));
         assert!(text.ends_with("],\n    ],\n];\n"));
         let mut read = Vec::new();
         for block in lines[1..lines.len() - 1].chunks(18) {
