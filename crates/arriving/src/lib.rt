@@ -4,34 +4,49 @@
 ghost use Rattle.std.specs.Prelude.{◌≡◌, ◌+◌, length};
 ghost use Rattle.arrival.specs.Calls.{piece, refusal_of, state_again, counted, put_at, judged as judged_of};
 ghost use Rattle.arrival.specs.Promise.{CallPromise, EndPromise};
+ghost use Rattle.arriving.specs.CallRefusal.{number_of, told};
 
-use arrival::{Arrival, State};
+use arrival::{Arrival, SIZE, State, TOO_MANY};
+use layout::{Fault, Refused, Verdict};
 
-// The length of the lent buffer, which is that of the longest file.
-const SIZE: usize = 65536;
+// Why a call is refused: the end was said, or the lent buffer has another length than the longest file.
+#[derive(Clone, Copy, Debug, PartialEq, Eq)]
+enum CallRefusal {
+    AfterEnd,
+    OtherLength,
+}
 
-// So many have arrived when more than a file may have.
-const TOO_MANY: u32 = 65537;
+impl CallRefusal {
+    fn number(self) -> u32
+        ensures { result ≡ number_of self }
+    {
+        match self {
+            CallRefusal::AfterEnd => 22,
+            CallRefusal::OtherLength => 23,
+        }
+    }
+}
 
-// Why a call is refused, by whether the end was said and by the length of the lent buffer: 23, 22, or 0 for no reason.
-fn refusal(ended: u32, size: usize) -> u32
-    ensures { result ≡ refusal_of ended size }
+// Whether a call is taken, by whether the end was said and by the length of the lent buffer, which is tested first.
+#[tactic(auto, unfolding(arrival::specs::Calls::refusal_of))]
+fn taken(ended: u32, size: usize) -> Result<(), CallRefusal>
+    ensures { told result ≡ refusal_of ended size }
 {
     if size != SIZE {
-        return 23;
+        return Err(CallRefusal::OtherLength);
     }
     if ended != 0 {
-        return 22;
+        return Err(CallRefusal::AfterEnd);
     }
-    0
+    Ok(())
 }
 
 // A refused call's answer: the state as it was.
-fn refused(number: u32, s: State) -> Arrival
-    ensures { result ≡ state_again number s }
+fn refused(why: CallRefusal, s: State) -> Arrival
+    ensures { result ≡ state_again (number_of why) s }
 {
     Arrival {
-        number,
+        number: why.number(),
         place: 0,
         arrived: s.arrived,
         ended: s.ended,
@@ -42,14 +57,9 @@ fn refused(number: u32, s: State) -> Arrival
 fn count(arrived: u32, more: usize) -> u32
     ensures { result ≡ counted (arrived + more) }
 {
-    if TOO_MANY < arrived {
-        return TOO_MANY;
-    }
-    let left = TOO_MANY - arrived;
-    if (left as usize) < more {
-        return TOO_MANY;
-    }
-    arrived + more as u32
+    (arrived as usize)
+        .saturating_add(more)
+        .min(TOO_MANY as usize) as u32
 }
 
 // Puts bytes into the buffer from a place on, as many as there is space for.
@@ -64,15 +74,15 @@ fn put(buffer: &mut [u8], at: usize, bytes: &[u8])
 }
 
 // What is said of the file, of which so many bytes have arrived.
-fn judged(arrived: u32, buffer: &[u8]) -> layout::Verdict
+fn judged(arrived: u32, buffer: &[u8]) -> Verdict
     ensures { result ≡ judged_of arrived buffer.now }
 {
     let n = arrived as usize;
     if SIZE < n {
-        return layout::Verdict {
-            number: 11,
+        return Verdict::from(Refused {
+            why: Fault::FileLength,
             place: 0,
-        };
+        });
     }
     footprint::check(text::front(buffer, n))
 }
@@ -81,9 +91,8 @@ fn judged(arrived: u32, buffer: &[u8]) -> layout::Verdict
 pub fn piece(s: State, bytes: &[u8], buffer: &mut [u8]) -> Arrival
     ensures { CallPromise s (piece bytes.now) buffer.old result buffer.new }
 {
-    let number = refusal(s.ended, buffer.len());
-    if number != 0 {
-        return refused(number, s);
+    if let Err(why) = taken(s.ended, buffer.len()) {
+        return refused(why, s);
     }
     let arrived = count(s.arrived, bytes.len());
     put(buffer, s.arrived as usize, bytes);
@@ -99,9 +108,8 @@ pub fn piece(s: State, bytes: &[u8], buffer: &mut [u8]) -> Arrival
 pub fn end(s: State, buffer: &[u8]) -> Arrival
     ensures { EndPromise s buffer.now result }
 {
-    let number = refusal(s.ended, buffer.len());
-    if number != 0 {
-        return refused(number, s);
+    if let Err(why) = taken(s.ended, buffer.len()) {
+        return refused(why, s);
     }
     let v = judged(s.arrived, buffer);
     let arrived = count(s.arrived, 0);

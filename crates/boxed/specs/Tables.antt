@@ -1,12 +1,10 @@
--- Boxes in a flat table, four values each, for the many pairs of a file: what stands there, the box around several, and which is the next that shares a point with a box. Definitions and statements.
-use Rattle.std.specs.Prelude.{ℕ, zero, suc, ◌+◌, ◌*◌, ◌/◌, ◌<◌, ◌≤◌, ◌≡◌, true, false, cond, List, ltb, length, get_or, set, Float}
+-- Boxes in a flat table, four values each, or in an array, for the many pairs of a file: what stands there, the box around several, and which is the next that shares a point with a box. Definitions and statements.
+use Rattle.std.specs.Prelude.{ℕ, zero, suc, ◌+◌, ◌*◌, ◌/◌, ◌<◌, ◌≤◌, ◌≡◌, true, false, cond, List, Option, IfSome, ltb, length, get_or, set, max, unwrap_or, Float}
 use Rattle.std.specs.Float.{nan}
+use Rattle.floats.specs.OneAnswer.{NoSecond}
 use Rattle.boxes.specs.declared.Box.{Box}
 use Rattle.boxes.specs.Boxes.{around, share_point}
 use Rattle.boxes.specs.Shared.{FiniteBox, Within}
-
-abbrev pub lesser : ℕ → ℕ → ℕ
-lesser a b = cond (ltb a b) a b
 
 -- a box without ends: nothing lies before it or behind it
 abbrev pub no_box : Box
@@ -27,41 +25,55 @@ box_in table k = cond (ltb k (boxes_of table)) (box_from table (4 * k)) no_box
 unfoldable pub table_with : List Float → ℕ → Box → List Float
 table_with table k b = cond (ltb k (boxes_of table)) (set (set (set (set table (4 * k) b.left) (4 * k + 1) b.right) (4 * k + 2) b.bottom) (4 * k + 3) b.top) table
 
+-- box k of an array of boxes; beyond the last that without ends
+abbrev pub box_among : List Box → ℕ → Box
+box_among bounds k = get_or bounds k no_box
+
+-- ---- boxes by their numbers, wherever they stand
 -- the box around n boxes from box j on: the first, widened by each in turn
-unfoldable pub box_over : List Float → ℕ → ℕ → Box
-unfolding box_in
-box_over table j zero = box_in table j
-box_over table j (suc n) = around (box_over table j n) (box_in table (j + n))
+unfoldable pub around_from : (ℕ → Box) → ℕ → ℕ → Box
+around_from at j zero = at j
+around_from at j (suc n) = around (around_from at j n) (at (j + n))
 
 -- of n boxes from box k on the first that shares a point with b, or where they end
-unfoldable pub next_near : List Float → Box → ℕ → ℕ → ℕ
-unfolding box_in
-next_near table b zero k = k
-next_near table b (suc n) k = let rest = next_near table b n (k + 1) in cond (share_point b (box_in table k)) k rest
+unfoldable pub near_from : (ℕ → Box) → Box → ℕ → ℕ → ℕ
+near_from at b zero k = k
+near_from at b (suc n) k = let rest = near_from at b n (k + 1) in cond (share_point b (at k)) k rest
+
+-- what is answered of a search from one box on before another, a box before that other or none, is told by where it ends
+abbrev pub NoSecondNear : Type 0
+NoSecondNear = (from to n : ℕ) → NoSecond (Option ℕ) (λ r. (unwrap_or r (max from to) ≡ n) × IfSome r (λ k. k < to))
+
+-- both of a flat table
+abbrev pub box_over : List Float → ℕ → ℕ → Box
+box_over table j n = around_from (box_in table) j n
+
+abbrev pub next_near : List Float → Box → ℕ → ℕ → ℕ
+next_near table b n k = near_from (box_in table) b n k
 
 -- ---- what these are good for
 -- none that is passed over shares a point with b, and the one that is found does
-pub record Passed (table : List Float) (b : Box) (n k : ℕ) : Type 0 where
-  pub least : k ≤ next_near table b n k
-  pub most : next_near table b n k ≤ k + n
-  pub none : (c : ℕ) → k ≤ c → c < next_near table b n k → share_point b (box_in table c) ≡ false
-  pub one : next_near table b n k < k + n → share_point b (box_in table (next_near table b n k)) ≡ true
+pub record Passed (at : ℕ → Box) (b : Box) (n k : ℕ) : Type 0 where
+  pub least : k ≤ near_from at b n k
+  pub most : near_from at b n k ≤ k + n
+  pub none : (c : ℕ) → k ≤ c → c < near_from at b n k → share_point b (at c) ≡ false
+  pub one : near_from at b n k < k + n → share_point b (at (near_from at b n k)) ≡ true
 
 abbrev pub PassesOver : Type 0
-PassesOver = (table : List Float) (b : Box) (n k : ℕ) → Passed table b n k
+PassesOver = (at : ℕ → Box) (b : Box) (n k : ℕ) → Passed at b n k
 
 -- n boxes from box j on are finite
-abbrev pub FiniteFrom : List Float → ℕ → ℕ → Type 0
-FiniteFrom table j n = (c : ℕ) → c < n → FiniteBox (box_in table (j + c))
+abbrev pub FiniteFrom : (ℕ → Box) → ℕ → ℕ → Type 0
+FiniteFrom at j n = (c : ℕ) → c < n → FiniteBox (at (j + c))
 
 -- every one of some finite boxes lies in the box around them
 abbrev pub HoldsAll : Type 0
-HoldsAll = (table : List Float) (j n : ℕ) → FiniteFrom table j n → (c : ℕ) → c < n → FiniteBox (box_over table j n) × Within (box_in table (j + c)) (box_over table j n)
+HoldsAll = (at : ℕ → Box) (j n : ℕ) → FiniteFrom at j n → (c : ℕ) → c < n → FiniteBox (around_from at j n) × Within (at (j + c)) (around_from at j n)
 
 -- so where the boxes around the ones and around the others share no point, none of the ones shares one with any of the others
 abbrev pub NoneOfEither : Type 0
-NoneOfEither = (table : List Float) (i m j n : ℕ) → FiniteFrom table i m → FiniteFrom table j n → share_point (box_over table i m) (box_over table j n) ≡ false → (a b : ℕ) → a < m → b < n → share_point (box_in table (i + a)) (box_in table (j + b)) ≡ false
+NoneOfEither = (at : ℕ → Box) (i m j n : ℕ) → FiniteFrom at i m → FiniteFrom at j n → share_point (around_from at i m) (around_from at j n) ≡ false → (a b : ℕ) → a < m → b < n → share_point (at (i + a)) (at (j + b)) ≡ false
 
 -- and where one box shares no point with the box around others, it shares one with none of them
 abbrev pub NoneOfThem : Type 0
-NoneOfThem = (table : List Float) (c : Box) (j n : ℕ) → FiniteBox c → FiniteFrom table j n → share_point (box_over table j n) c ≡ false → (b : ℕ) → b < n → share_point c (box_in table (j + b)) ≡ false
+NoneOfThem = (at : ℕ → Box) (c : Box) (j n : ℕ) → FiniteBox c → FiniteFrom at j n → share_point (around_from at j n) c ≡ false → (b : ℕ) → b < n → share_point c (at (j + b)) ≡ false

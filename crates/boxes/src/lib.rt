@@ -5,7 +5,7 @@ ghost use Rattle.std.specs.Prelude.{◌≡◌};
 ghost use Rattle.boxes.specs.Boxes.{lesser as lesser_of, greater as greater_of, box_of, around as around_both, share_point};
 
 // An upright box: its ends on both axes, which belong to it.
-#[derive(Clone, Copy)]
+#[derive(Clone, Copy, Debug, PartialEq)]
 pub struct Box {
     pub left: f64,
     pub right: f64,
@@ -14,6 +14,7 @@ pub struct Box {
 }
 
 // The lesser of two values.
+// Stays, and so does `greater`: of a NaN `f64::min` takes the other value, and of −0.0 and 0.0 either, and the box would have other bits.
 fn lesser(a: f64, b: f64) -> f64
     ensures { result ≡ lesser_of a b }
 {
@@ -28,18 +29,20 @@ fn greater(a: f64, b: f64) -> f64
 }
 
 // The box of a triangle.
-pub fn box_of(x0: f64, y0: f64, x1: f64, y1: f64, x2: f64, y2: f64) -> Box
-    ensures { result ≡ box_of x0 y0 x1 y1 x2 y2 }
+#[tactic(auto, unfolding(crate::specs::Boxes::box_of))]
+pub fn box_of(t: floats::Triangle) -> Box
+    ensures { result ≡ box_of t.a.x t.a.y t.b.x t.b.y t.c.x t.c.y }
 {
     Box {
-        left: lesser(lesser(x0, x1), x2),
-        right: greater(greater(x0, x1), x2),
-        bottom: lesser(lesser(y0, y1), y2),
-        top: greater(greater(y0, y1), y2),
+        left: lesser(lesser(t.a.x, t.b.x), t.c.x),
+        right: greater(greater(t.a.x, t.b.x), t.c.x),
+        bottom: lesser(lesser(t.a.y, t.b.y), t.c.y),
+        top: greater(greater(t.a.y, t.b.y), t.c.y),
     }
 }
 
 // The box around two boxes.
+#[tactic(auto, unfolding(crate::specs::Boxes::around))]
 pub fn around(a: Box, b: Box) -> Box
     ensures { result ≡ around_both a b }
 {

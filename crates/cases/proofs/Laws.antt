@@ -1,15 +1,18 @@
--- A word grows byte by byte to its stop, a number digit by digit, and a room is filled byte by byte to its end. Assumes nothing.
-use Prim.Native.Nat.{ℕ, zero, suc, ◌+◌, ◌-◌, ◌*◌, ◌/◌, ◌%◌, ◌<◌, ◌≤◌}
-use mathlib.Core.Path.{◌≡◌, refl, sym, ap, ◌∙◌}
-use mathlib.Core.List.{List, [], ◌∷◌, ◌++◌, append-nil}
+-- A word ends before its stop, and a room is filled byte by byte to its end. Assumes nothing.
+use Prim.Native.Nat.{ℕ, zero, suc, ◌+◌, ◌-◌, ◌*◌, ◌/◌, ◌%◌, ◌<◌, ◌≤◌, min}
+use mathlib.Core.Path.{◌≡◌, refl, sym, ap, ap₂, ◌∙◌}
+use mathlib.Core.List.{List, [], ◌∷◌, ◌++◌}
 use native.Mathlib.Omega.{arith}
-use native.Mathlib.Nat.{le_trans, min-le_left}
 use native.Mathlib.Numerals.{add-one}
-use lib.ListN.{length, get_or, set, take, drop, length-take, length-drop}
-use lib.Seq.{sets, take-suc, drop-cons, drop-nil, append_snoc, get_or-drop, sets-eq}
-use borrow.Author.Tests.{eq-eqb, ne_eqb}
-use Rattle.cases.specs.Digits.{digit_at, number_to, number_of, byte_of, bytes_from, fitting, filled, glyph, digits_from, spelt, lettered}
-use Rattle.cases.specs.Words.{before, until}
+use lib.ListN.{length, get_or, set, take, drop, length-drop}
+use lib.Dec.{eqb, leb, ltb}
+use mathlib.Core.Bool.{Bool, true, false, not, cond}
+use lib.Seq.{sets, drop-nil, sets-eq, take_all}
+use borrow.Author.Tests.{leb-true, leb-false, ltb-false}
+use Rattle.std.proofs.Common.{Option, Some, None, unwrap_or, position}
+use Rattle.std.specs.List.{position_or_len}
+use Rattle.cases.specs.Digits.{byte_of, bytes_from, fitting, filled, glyph, digits_from, spelt, lettered}
+use Rattle.cases.specs.Words.{before, until, longer, lines_of}
 
 -- beyond the end nothing is left
 gone : (n : ℕ) (text : List ℕ) → length text ≤ n → ◌≡◌ {A = List ℕ} (drop n text) []
@@ -17,50 +20,82 @@ gone n [] h = drop-nil n
 gone zero (b ∷ text) h = absurd (omega arith)
 gone (suc n) (b ∷ text) h = gone n text (omega arith)
 
-before_none : (stop : ℕ) → before stop [] ≡ []
+-- from beyond the end on nothing is left either
+pub drop_min : (n : ℕ) (text : List ℕ) → take (length text - min n (length text)) (drop (min n (length text)) text) ≡ drop n text
+drop_min n text = go (leb n (length text)) refl
+  where
+    all : (k : ℕ) → take (length text - k) (drop k text) ≡ drop k text
+    all k = let d = length-drop k text in take_all (length text - k) (drop k text) (omega (arith, d))
+
+    go : (t : Bool) → leb n (length text) ≡ t → take (length text - min n (length text)) (drop (min n (length text)) text) ≡ drop n text
+    go true e = let h = leb-true n (length text) e in let m : min n (length text) ≡ n = omega (arith, h) in rw m (all n)
+    go false e = let h = leb-false n (length text) e in let m : min n (length text) ≡ length text = omega (arith, h) in rw m (all (length text) ∙ (gone (length text) text (omega arith) ∙ sym (gone n text (omega (arith, h)))))
+
+-- ---- what stands before the first byte of a kind
+before_first : (stop : ℕ) (text : List ℕ) → take (position_or_len (λ b. eqb b stop) text) text ≡ before stop text
 unfolding before
-before_none stop = refl
+before_first stop [] = refl
+before_first stop (b ∷ rest) = go (before_first stop rest) (eqb b stop)
+  where
+    go : take (position_or_len (λ b. eqb b stop) rest) rest ≡ before stop rest → (t : Bool) → take (cond (not t) (1 + position_or_len (λ b. eqb b stop) rest) 0) (b ∷ rest) ≡ cond t [] (b ∷ before stop rest)
+    go h true = refl
+    go h false = let q : 1 + position_or_len (λ b. eqb b stop) rest ≡ suc (position_or_len (λ b. eqb b stop) rest) = omega arith in rw q (ap (λ t. b ∷ t) h)
 
-pub nothing_there : (text : List ℕ) (from stop : ℕ) → length text ≤ from → [] ≡ until text from stop
-nothing_there text from stop h = sym (rw (gone from text h) (before_none stop))
+before_is : (stop : ℕ) (text : List ℕ) → take (unwrap_or (position (λ b. eqb b stop) text) (length text)) text ≡ before stop text
+before_is stop text = go (ltb (position_or_len (λ b. eqb b stop) text) (length text)) refl
+  where
+    go : (t : Bool) → ltb (position_or_len (λ b. eqb b stop) text) (length text) ≡ t → take (unwrap_or (cond t (Some (position_or_len (λ b. eqb b stop) text)) None) (length text)) text ≡ before stop text
+    go true e = before_first stop text
+    go false e = take_all (length text) text (omega arith) ∙ (sym (take_all _ text (ltb-false _ _ e)) ∙ before_first stop text)
 
-module _ (text : List ℕ) (from stop : ℕ) where
-  -- what was passed since the word began, and what is left of it, make the word
-  abbrev pub Passed : ℕ → Type 0
-  Passed end = until text from stop ≡ take (end - from) (drop from text) ++ before stop (drop end text)
+before_length : (stop : ℕ) (text : List ℕ) → length (before stop text) ≤ length text
+unfolding before
+before_length stop [] = omega arith
+before_length stop (b ∷ rest) = go (before_length stop rest) (eqb b stop)
+  where
+    go : length (before stop rest) ≤ length rest → (t : Bool) → length (cond t [] (b ∷ before stop rest)) ≤ suc (length rest)
+    go h true = omega arith
+    go h false = omega (arith, h)
 
-  pub at_first : Passed from
-  at_first = let z : from - from ≡ 0 = omega arith in rw z refl
+-- a word ends where its stop was found, or with the text
+module _ (text : List ℕ) (from stop : ℕ) {rest : List ℕ} (r : rest ≡ drop from text) {o : Option ℕ} (e : o ≡ position (λ b. eqb b stop) rest) where
+  until_is : {word : List ℕ} → word ≡ take (unwrap_or o (length rest)) rest → (word ≡ until text from stop) × (length word ≤ length text - from)
+  until_is {word} w =
+      let is : word ≡ until text from stop = w ∙ (ap (λ o. take (unwrap_or o (length rest)) rest) e ∙ (before_is stop rest ∙ ap (before stop) r)) in
+      let l = before_length stop (drop from text) in
+      let d = length-drop from text in
+      (is, rw is (omega (arith, l, d)))
 
-  pub one_more : (end : ℕ) → from ≤ end → end < length text → (get_or text end 0 ≡ stop → ⊥) → Passed end → Passed (end + 1)
-  unfolding before
-  one_more end f h n p = p ∙ (ap (λ (r : List ℕ). take (end - from) (drop from text) ++ r) left ∙ (sym (append_snoc (take (end - from) (drop from text)) (get_or text end 0) (before stop (drop (end + 1) text))) ∙ ap (λ (r : List ℕ). r ++ before stop (drop (end + 1) text)) (sym passed)))
-    where
-      left : before stop (drop end text) ≡ get_or text end 0 ∷ before stop (drop (end + 1) text)
-      left = rw (drop-cons text end 0 h, ne_eqb (get_or text end 0) stop n, add-one end) refl
+  pub found : {n : ℕ} → o ≡ Some n → (take n rest ≡ until text from stop) × (length (take n rest) ≤ length text - from)
+  found {n} s = until_is (ap (λ o. take (unwrap_or o (length rest)) rest) (sym s))
 
-      at_end : get_or (drop from text) (end - from) 0 ≡ get_or text end 0
-      at_end = let q : from + (end - from) ≡ end = omega arith in get_or-drop from text (end - from) 0 ∙ ap (λ (k : ℕ). get_or text k 0) q
+  pub not_found : o ≡ None → (rest ≡ until text from stop) × (length rest ≤ length text - from)
+  not_found s = until_is (sym (take_all _ rest (omega arith)) ∙ ap (λ o. take (unwrap_or o (length rest)) rest) (sym s))
 
-      inside : end - from < length (drop from text)
-      inside = rw (length-drop from text) (omega arith)
+-- ---- the lines of a text: the first one, and those behind it
+pub first_line : (text : List ℕ) → 0 < length text → lines_of text ≡ before 10 text ∷ lines_of (drop (suc (length (before 10 text))) text)
+unfolding lines_of before
+first_line [] h = absurd (omega (arith, h))
+first_line (b ∷ []) h = go (eqb b 10)
+  where
+    go : (t : Bool) → cond t ([] ∷ []) ((b ∷ []) ∷ []) ≡ cond t [] (b ∷ []) ∷ lines_of (drop (suc (length (cond t [] (b ∷ [])))) (b ∷ []))
+    go true = refl
+    go false = refl
+first_line (b ∷ c ∷ rest) h = go (first_line (c ∷ rest) (omega arith)) (eqb b 10)
+  where
+    go : lines_of (c ∷ rest) ≡ before 10 (c ∷ rest) ∷ lines_of (drop (suc (length (before 10 (c ∷ rest)))) (c ∷ rest)) → (t : Bool) → cond t ([] ∷ lines_of (c ∷ rest)) (longer b (lines_of (c ∷ rest))) ≡ cond t [] (b ∷ before 10 (c ∷ rest)) ∷ lines_of (drop (suc (length (cond t [] (b ∷ before 10 (c ∷ rest))))) (b ∷ c ∷ rest))
+    go h true = refl
+    go h false = ap (longer b) h
 
-      passed : take (end + 1 - from) (drop from text) ≡ take (end - from) (drop from text) ++ (get_or text end 0 ∷ [])
-      passed = let q : end + 1 - from ≡ suc (end - from) = omega arith in rw q (take-suc (drop from text) (end - from) 0 inside ∙ ap (λ (b : ℕ). take (end - from) (drop from text) ++ (b ∷ [])) at_end)
+pub no_line : (text : List ℕ) → length text ≡ 0 → lines_of text ≡ []
+unfolding lines_of
+no_line [] h = refl
+no_line (b ∷ rest) h = absurd (omega (arith, h))
 
-  pub stopped : (end : ℕ) → end < length text → get_or text end 0 ≡ stop → Passed end → take (end - from) (drop from text) ≡ until text from stop
-  unfolding before
-  stopped end h e p = sym (p ∙ (ap (λ (r : List ℕ). take (end - from) (drop from text) ++ r) none ∙ append-nil _))
-    where
-      none : before stop (drop end text) ≡ []
-      none = rw (drop-cons text end 0 h, eq-eqb (get_or text end 0) stop e) refl
-
-  pub ended : (end : ℕ) → length text ≤ end → Passed end → take (end - from) (drop from text) ≡ until text from stop
-  ended end h p = sym (p ∙ (ap (λ (r : List ℕ). take (end - from) (drop from text) ++ r) (rw (gone end text h) (before_none stop)) ∙ append-nil _))
-
-  -- a part of the text is as long as it is cut
-  pub part_length : (end : ℕ) → end ≤ length text → length (take (end - from) (drop from text)) ≤ length text - from
-  part_length end h = let l = length-take (end - from) (drop from text) in let d = length-drop from text in rw l (le_trans (min-le_left (end - from) (length (drop from text))) (omega (arith, h)))
+pub next_line : (text : List ℕ) → (length text ≡ 0 → ⊥) → {line rest : List ℕ} → line ≡ until text 0 10 → rest ≡ drop (length line + 1) text → lines_of text ≡ line ∷ lines_of rest
+next_line text h {line} {rest} l r =
+    let n : length line + 1 ≡ suc (length (before 10 text)) = ap (λ k. k + 1) (ap length l) ∙ add-one (length (before 10 text)) in
+    first_line text (omega (arith, h)) ∙ ap₂ (λ l r. l ∷ lines_of r) (sym l) (sym (r ∙ ap (λ k. drop k text) n))
 
 -- ---- a room that is filled from the front
 bytes_length : (text : List ℕ) (m k : ℕ) → length (bytes_from text m k) ≡ m
@@ -119,16 +154,3 @@ spell_end bytes room₀ room n k e h z p = sym (none (n - k) (omega arith)) ∙ 
 
     whole : take 0 room₀ ++ digits_from bytes n 0 ++ drop (0 + length (digits_from bytes n 0)) room₀ ≡ lettered bytes room₀
     whole = let q : 0 + length (digits_from bytes n 0) ≡ 2 * n = (let r = digits_length bytes n 0 in omega (arith, r)) in rw (q, e) refl
-
--- ---- a number that is read from its highest digit on
-pub number_start : (text : List ℕ) → 0 ≡ number_to text 0
-unfolding number_to
-number_start text = refl
-
-pub number_turn : (text : List ℕ) (i : ℕ) {v d w : ℕ} → v ≡ number_to text i → d ≡ digit_at text i → w ≡ d → v % 1152921504606846976 * 16 + w ≡ number_to text (i + 1)
-unfolding number_to
-number_turn text i p q r = rw (r, q, p, add-one i) refl
-
-pub number_end : (text : List ℕ) (i : ℕ) {v : ℕ} → i ≤ length text → length text ≤ i → v ≡ number_to text i → v ≡ number_of text
-unfolding number_of
-number_end text i h k p = let z : i ≡ length text = omega arith in p ∙ ap (number_to text) z

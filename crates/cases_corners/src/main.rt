@@ -4,72 +4,33 @@
 
 use std::io;
 
-fn write_number<P: Print>(out: &P, n: u32) -> io::Result<()> {
-    print!(out; "{n} ")
-}
+// Of a line's values no more are taken.
+const MOST: usize = 32;
 
-fn write_value<P: Print>(out: &P, x: f64) -> io::Result<()> {
-    print!(out; " {:016x}", cases::bits_of(x))
-}
-
-fn write_corner<P: Print>(out: &P, c: corners::Told) -> io::Result<()> {
-    write_number(out, c.number)?;
-    write_number(out, c.kind)?;
-    write_number(out, c.which)?;
-    write_number(out, c.edge)?;
-    print!(out; "{}", c.line)?;
-    write_value(out, c.t)?;
-    write_value(out, c.x)?;
-    write_value(out, c.y)?;
-    out.write_all(b"\n")
-}
-
-// What is told of a place, of the first n of these values.
-fn told_of(values: &[f64], n: usize, place: usize) -> corners::Told {
-    if n <= values.len() {
-        return routine::corner_at(&values[0..n], place);
-    }
-    routine::corner_at(values, place)
-}
-
-// One more value, if there is room for it; how many there are.
-fn put_value(values: &mut [f64], n: usize, x: f64) -> usize {
-    if n < values.len() {
-        values[n] = x;
-        return n + 1;
-    }
-    n
-}
-
-// The values of a line, each behind a space, from a place on; how many.
-fn put_values(values: &mut [f64], line: &[u8], from: usize) -> usize {
-    let mut n: usize = 0;
-    let mut at = from;
-    while at < line.len() {
-        let word = cases::until(line, at + 1, b' ');
-        n = put_value(values, n, cases::value_of(cases::number_of(word)));
-        at = at + 1 + word.len();
-    }
-    n
+fn write_corner(rt: &impl Print, c: corners::Told) -> io::Result<()> {
+    let t = cases::bits_of(c.t);
+    let x = cases::bits_of(c.x);
+    let y = cases::bits_of(c.y);
+    print!(rt; "{} {} {} {} {}", c.number, c.kind, c.which, c.edge, c.line)?;
+    println!(rt; " {t:016x} {x:016x} {y:016x}")
 }
 
 // The case of a line: a place, and values.
-fn run<P: Print>(out: &P, line: &[u8]) -> io::Result<()> {
-    let head = cases::until(line, 0, b' ');
-    let place = cases::number_of(head) as usize;
-    let mut values = [0.0; 32];
-    let n = put_values(&mut values, line, head.len());
-    write_corner(out, told_of(&values, n, place))
+fn run(rt: &(impl Print + AllocGlobal), line: &[u8]) -> io::Result<()> {
+    let mut words = line.split(|b| *b == b' ');
+    let place = cases::number_of(words.next().unwrap_or(&[])) as usize;
+    let values: Vec<f64> = words
+        .map(|word| cases::value_of(cases::number_of(word)))
+        .take(MOST)
+        .collect(rt.alloc())?;
+    write_corner(rt, routine::corner_at(values.as_slice(), place))
 }
 
 fn main(rt: HostRuntime) -> io::Result<()> {
     let mut text = [0u8; 131072];
     let n = cases::read_input(&mut rt.stdin(), &mut text)?;
-    let mut at: usize = 0;
-    while at < n {
-        let line = cases::until(&text[0..n], at, b'\n');
+    for line in cases::lines(&text[..n]) {
         run(&rt, line)?;
-        at = at + line.len() + 1;
     }
     Ok(())
 }

@@ -10,8 +10,6 @@
 // A line of the output has number, place, arrived and ended behind a piece and an end, and the state is then the one that was answered; or the bytes that were asked for.
 #![tactic(auto)]
 
-ghost use Rattle.std.specs.Prelude.{length};
-
 use arrival::{Arrival, State};
 use std::io;
 
@@ -19,12 +17,18 @@ const MEMORY: usize = 65600;
 
 const LONGEST_PIECE: usize = 70000;
 
-// The number of the word at a place.
+const START: State = State {
+    arrived: 0,
+    ended: 0,
+};
+
+// The number of the word at a place. Words are found by their places: a line with shorter words than it should have is then no error, and its numbers are those that stand there.
 fn number_at(line: &[u8], at: usize) -> u64 {
     cases::number_of(cases::until(line, at, b' '))
 }
 
 // The last eight digits of a number.
+// Stays by hand, as `byte` does: `u32::try_from` refuses a longer number, whose last digits count here.
 fn low(n: u64) -> u32 {
     (n % 4294967296) as u32
 }
@@ -34,158 +38,132 @@ fn byte(n: u64) -> u8 {
     (n % 256) as u8
 }
 
-fn fill(bytes: &mut [u8], b: u8) {
-    let mut i: usize = 0;
-    while i < bytes.len() {
-        bytes[i] = b;
-        i = i + 1;
+// A run: its state, and the memory whose front all calls are lent.
+#[derive(Drop)]
+struct Run {
+    state: State,
+    memory: [u8; MEMORY],
+}
+
+impl Run {
+    // Writes an answer, whose state becomes the run's.
+    fn told(&mut self, rt: &impl Print, a: Arrival) -> io::Result<()> {
+        println!(rt;
+            "{:08x} {:08x} {:08x} {:08x}",
+            a.number, a.place, a.arrived, a.ended
+        )?;
+        self.state = State {
+            arrived: a.arrived,
+            ended: a.ended,
+        };
+        Ok(())
     }
-}
 
-fn write_number<P: Print>(out: &P, n: u32, behind: &[u8]) -> io::Result<()> {
-    print!(out; "{n:08x}")?;
-    out.write_all(behind)
-}
-
-// Writes an answer; the state that it has.
-fn told<P: Print>(out: &P, a: Arrival) -> io::Result<State> {
-    write_number(out, a.number, b" ")?;
-    write_number(out, a.place, b" ")?;
-    write_number(out, a.arrived, b" ")?;
-    write_number(out, a.ended, b"\n")?;
-    Ok(State {
-        arrived: a.arrived,
-        ended: a.ended,
-    })
-}
-
-fn piece<P: Print>(
-    out: &P,
-    s: State,
-    bytes: &[u8],
-    memory: &mut [u8],
-    size: usize,
-) -> io::Result<State> {
-    if size <= memory.len() {
-        return told(out, arriving::piece(s, bytes, &mut memory[0..size]));
+    // Lends the memory's first bytes for a piece; a buffer that is longer than the memory is not lent, and nothing is said.
+    fn piece(&mut self, rt: &impl Print, bytes: &[u8], size: usize) -> io::Result<()> {
+        match self.memory.get_mut(..size) {
+            Some(buffer) => {
+                let a = arriving::piece(self.state, bytes, buffer);
+                self.told(rt, a)
+            }
+            None => Ok(()),
+        }
     }
-    Ok(s)
-}
 
-fn given_piece<P: Print>(
-    out: &P,
-    s: State,
-    word: &[u8],
-    memory: &mut [u8],
-    size: usize,
-) -> io::Result<State> {
-    let mut bytes = [0u8; 4096];
-    let n = cases::bytes_of(word, &mut bytes);
-    piece(out, s, &bytes[0..n], memory, size)
-}
-
-fn filled_piece<P: Print>(
-    out: &P,
-    s: State,
-    n: usize,
-    b: u8,
-    memory: &mut [u8],
-    size: usize,
-) -> io::Result<State> {
-    let mut bytes = [0u8; LONGEST_PIECE];
-    fill(&mut bytes, b);
-    if n <= LONGEST_PIECE {
-        return piece(out, s, &bytes[0..n], memory, size);
+    fn given_piece(&mut self, rt: &impl Print, word: &[u8], size: usize) -> io::Result<()> {
+        let mut bytes = [0u8; 4096];
+        let n = cases::bytes_of(word, &mut bytes);
+        self.piece(rt, &bytes[..n], size)
     }
-    Ok(s)
-}
 
-fn end<P: Print>(out: &P, s: State, memory: &[u8], size: usize) -> io::Result<State> {
-    if size <= memory.len() {
-        return told(out, arriving::end(s, &memory[0..size]));
+    fn filled_piece(&mut self, rt: &impl Print, n: usize, b: u8, size: usize) -> io::Result<()> {
+        match [b; LONGEST_PIECE].get(..n) {
+            Some(bytes) => self.piece(rt, bytes, size),
+            None => Ok(()),
+        }
     }
-    Ok(s)
+
+    fn end(&mut self, rt: &impl Print, size: usize) -> io::Result<()> {
+        match self.memory.get(..size) {
+            Some(buffer) => {
+                let a = arriving::end(self.state, buffer);
+                self.told(rt, a)
+            }
+            None => Ok(()),
+        }
+    }
 }
 
 fn touch(memory: &mut [u8], at: usize, word: &[u8]) {
     let mut bytes = [0u8; 4096];
     let n = cases::bytes_of(word, &mut bytes);
-    text::put_bytes(memory, at, &bytes[0..n]);
+    let _ = text::put_bytes(memory, at, &bytes[..n]);
 }
 
-fn show<P: Print>(out: &P, memory: &[u8], at: usize, n: usize) -> io::Result<()> {
+// The memory's bytes from a place on, if they are all there.
+fn part(memory: &[u8], at: usize, n: usize) -> Option<&[u8]> {
+    memory.get(at..)?.get(..n)
+}
+
+// Writes as many of them as a line holds.
+fn show(rt: &impl Print, memory: &[u8], at: usize, n: usize) -> io::Result<()> {
+    let Some(bytes) = part(memory, at, n) else {
+        return Ok(());
+    };
     let mut digits = [0u8; 4096];
-    if memory.len() < at {
-        return Ok(());
-    }
-    if memory.len() - at < n {
-        return Ok(());
-    }
-    let k = cases::digits_of(&memory[at..at + n], &mut digits);
-    out.write_all(&digits[0..k])?;
-    out.write_all(b"\n")
+    let k = cases::digits_of(bytes, &mut digits);
+    rt.write_all(&digits[..k])?;
+    rt.write_all(b"\n")
 }
 
-// Does what a line says; the state behind it.
-fn step<P: Print>(out: &P, line: &[u8], s: State, memory: &mut [u8]) -> io::Result<State> {
-    if line.len() == 0 {
-        return Ok(s);
-    }
-    let letter = line[0];
+// Does what a line says.
+fn step(rt: &impl Print, line: &[u8], run: &mut Run) -> io::Result<()> {
+    let Some(letter) = line.first() else {
+        return Ok(());
+    };
     let first = number_at(line, 2);
     let second = number_at(line, 11);
-    if letter == b'n' {
-        fill(memory, byte(first));
-        return Ok(State {
-            arrived: 0,
-            ended: 0,
-        });
+    match *letter {
+        b'n' => {
+            run.memory.fill(byte(first));
+            run.state = START;
+            Ok(())
+        }
+        b's' => {
+            run.state = State {
+                arrived: low(first),
+                ended: low(second),
+            };
+            Ok(())
+        }
+        b'p' => run.given_piece(rt, cases::until(line, 11, b' '), first as usize),
+        b'r' => {
+            let b = byte(number_at(line, 20));
+            run.filled_piece(rt, second as usize, b, first as usize)
+        }
+        b'e' => run.end(rt, first as usize),
+        b'w' => {
+            touch(
+                &mut run.memory,
+                first as usize,
+                cases::until(line, 11, b' '),
+            );
+            Ok(())
+        }
+        b'b' => show(rt, &run.memory, first as usize, second as usize),
+        _ => Ok(()),
     }
-    if letter == b's' {
-        return Ok(State {
-            arrived: low(first),
-            ended: low(second),
-        });
-    }
-    if letter == b'p' {
-        return given_piece(out, s, cases::until(line, 11, b' '), memory, first as usize);
-    }
-    if letter == b'r' {
-        return filled_piece(
-            out,
-            s,
-            second as usize,
-            byte(number_at(line, 20)),
-            memory,
-            first as usize,
-        );
-    }
-    if letter == b'e' {
-        return end(out, s, memory, first as usize);
-    }
-    if letter == b'w' {
-        touch(memory, first as usize, cases::until(line, 11, b' '));
-        return Ok(s);
-    }
-    if letter == b'b' {
-        show(out, memory, first as usize, second as usize)?;
-    }
-    Ok(s)
 }
 
 fn main(rt: HostRuntime) -> io::Result<()> {
     let mut text = [0u8; 131072];
-    let mut memory = [0u8; MEMORY];
     let n = cases::read_input(&mut rt.stdin(), &mut text)?;
-    let mut s = State {
-        arrived: 0,
-        ended: 0,
+    let mut run = Run {
+        state: START,
+        memory: [0u8; MEMORY],
     };
-    let mut at: usize = 0;
-    while at < n {
-        let line = cases::until(&text[0..n], at, b'\n');
-        s = step(&rt, line, s, &mut memory)?;
-        at = at + line.len() + 1;
+    for line in cases::lines(&text[..n]) {
+        step(&rt, line, &mut run)?;
     }
     Ok(())
 }

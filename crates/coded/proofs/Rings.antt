@@ -15,7 +15,7 @@ use Rattle.table.specs.Table.{entry_for}
 use Rattle.walk.specs.declared.Ring.{Ring}
 use Rattle.ring.specs.Flags.{vertices_in, corners_in, neighbours}
 use Rattle.ring.specs.Ring.{ring}
-use Rattle.walk.specs.Code.{code_of, codes_of, befores, flags_and_ring, lower_signs, edges_tell, inside_of, neighbours_of, walk_of, begun, along_edge, closing, entering, leaving, cornered, pushed, line_of_digit, is_on_line}
+use Rattle.walk.specs.Code.{code_of, codes_of, befores, flags_and_ring, lower_signs, edges_tell, inside_of, neighbours_of, walk_of, begun, along_edge, closing, closed, entering, entered, gap, leaving, cornered, pushed, line_of_digit, is_on_line}
 use Rattle.ring.proofs.Walks.{all_walks, walks_from, in_all_orders, every_walk}
 
 same_bools : List Bool → List Bool → Bool
@@ -53,7 +53,7 @@ module _ (ss : List (List Bool)) (os : List (List ℕ)) where
   B5 = same_bools r.neighbour (neighbours (signs_at ss) (order_at os))
 
   unfoldable agrees : Bool
-  unfolding same_bools same_list flags_and_ring entry_for lower_signs edges_tell inside_of neighbours_of walk_of begun along_edge closing entering leaving cornered pushed line_of_digit is_on_line befores ring vertices_in corners_in neighbours
+  unfolding same_bools same_list flags_and_ring entry_for lower_signs edges_tell inside_of neighbours_of walk_of begun along_edge closing closed entering entered gap leaving cornered pushed line_of_digit is_on_line befores ring vertices_in corners_in neighbours
   agrees = B1 && (B2 && (B3 && (B4 && B5)))
 
   from_test : T agrees → IsRing ss os r

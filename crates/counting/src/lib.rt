@@ -20,6 +20,7 @@ fn leak_by_second(own: f64, t: listing::Tally) -> bool
 }
 
 // Whether they leak, where the test recording has this last byte and this own area.
+// Stays a number: docs/PROMISES.md has it of a last byte, which an entry can have of any value.
 pub fn leak(last: u32, own: f64, t: listing::Tally) -> bool
     ensures { result ≡ leak_by last own t }
 {
@@ -40,5 +41,5 @@ pub fn only_touch(t: listing::Tally) -> bool
 pub fn one_if(test: bool) -> u32
     ensures { (result ≡ once test) × (result ≤ 1) }
 {
-    if test { 1 } else { 0 }
+    u32::from(test)
 }

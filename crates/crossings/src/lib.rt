@@ -5,7 +5,8 @@ ghost use Rattle.std.specs.Prelude.{◌≡◌};
 ghost use Rattle.crossings.specs.Crossing.{crossed_on};
 
 // A crossing: t, the position by it, and whether t's denominator is finite.
-#[derive(Clone, Copy)]
+// Stays a flag beside values: `crossed_on`, which docs/PROMISES.md names, has it, and the routine asks all flags at once.
+#[derive(Clone, Copy, Debug, PartialEq)]
 pub struct Crossed {
     pub t: f64,
     pub x: f64,
@@ -14,6 +15,7 @@ pub struct Crossed {
 }
 
 // The crossing between a, which is plus on its line, and b, p and q being the line's parameters at them. t is reckoned from a.
+#[tactic(auto, unfolding(crate::specs::Crossing::crossed_on))]
 pub fn between(a: floats::Position, b: floats::Position, p: f64, q: f64) -> Crossed
     ensures { result ≡ crossed_on p q a b }
 {

@@ -1,58 +1,82 @@
 // Footprint files from lists: the lists are judged whole before the first byte is put, and the file is put whole.
 #![tactic(auto)]
 
-ghost use Rattle.std.specs.Prelude.{◌≡◌, [], ◌+◌, ◌*◌, ◌≤◌, length};
+ghost use Rattle.std.specs.Prelude.{◌≡◌, ◌+◌, ◌*◌, ◌≤◌, length};
 ghost use Rattle.text.specs.Room.{Put};
-ghost use Rattle.filing.specs.Given.{given_of, sum_of};
+ghost use Rattle.filing.specs.Given.{given_of, recordings, sum_to};
+ghost use Rattle.filing.specs.Lists.{given};
 ghost use Rattle.filing.specs.File.{table_bytes, file_of};
-ghost use Rattle.filing.specs.Refusals.{refusal};
+ghost use Rattle.filing.specs.Fit.{Fit};
 ghost use Rattle.filing.specs.Promise.{WritePromise};
+ghost use Rattle.filer.specs.Told.{told};
+
+use filing::Lists;
+use layout::{ENTRY, Entry, TRAILER};
+use refusing::WriteRefusal;
+use text::Written;
 
 // The table, for which there is room, from a place on; the place behind it.
-fn put_table(
-    room: &mut [u8],
-    at: usize,
-    ids: &[u32],
-    counts: &[u32],
-    sets: &[u8],
-    lasts: &[u8],
-) -> usize
-    requires { (length counts.now ≡ length ids.now) × (length sets.now ≡ length ids.now) × (length lasts.now ≡ length ids.now) × (24 * sum_of counts.now (length ids.now) ≤ 65536) × (at + 12 * length ids.now ≤ length room.old) }
-    ensures { Put room.old at (table_bytes (given_of ids.now counts.now sets.now lasts.now [])) room.new result }
+fn put_table(room: &mut [u8], at: usize, lists: Lists<'_>) -> usize
+    requires small { 24 * sum_to (given lists) (recordings (given lists)) ≤ 65536 }
+    requires fits { at + 12 * length lists.ids.now ≤ length room.old }
+    ensures { Put room.old at (table_bytes (given lists.entry)) room.new result }
 {
     let mut to = at;
-    let mut first: u32 = 0;
-    let mut i: usize = 0;
-    while i < ids.len() {
-        let count = counts[i];
-        to = storing::put_entry(room, to, ids[i], first, count, sets[i], lasts[i]);
-        first = first + 24 * count;
-        i = i + 1;
+    let mut first = 0;
+    for i in 0..lists.ids.len() {
+        let e = Entry {
+            id: lists.ids[i],
+            first,
+            count: lists.counts[i],
+            set: u32::from(lists.sets[i]),
+            last: u32::from(lists.lasts[i]),
+        };
+        to = storing::put_entry(room, to, e).unwrap();
+        first += 24 * e.count;
     }
     to
 }
 
 // The file of lists that are not refused, at the front of the room, and its length.
-fn put_file(
-    room: &mut [u8],
+fn put_file(room: &mut [u8], lists: Lists<'_>) -> usize
+    requires { Fit (given lists) (length room.old) }
+    ensures { Put room.old 0 (file_of (given lists.entry)) room.new result }
+{
+    let n = lists.ids.len();
+    let table = 4 * lists.numbers.len();
+    let length = table + ENTRY * n + TRAILER;
+    let p = storing::put_numbers(room, lists.numbers).unwrap();
+    let q = put_table(room, p, lists);
+    storing::put_three(room, q, [table as u32, n as u32, length as u32]).unwrap()
+}
+
+// The length of the file of these lists, which is put at the front of the room; or the first refusal that applies, and the room is as it was.
+// Stays with five slices, as `write` does.
+fn put(
     ids: &[u32],
     counts: &[u32],
     sets: &[u8],
     lasts: &[u8],
     numbers: &[i32],
-) -> usize
-    requires { refusal (given_of ids.now counts.now sets.now lasts.now numbers.now) (length room.old) ≡ 0 }
-    ensures { Put room.old 0 (file_of (given_of ids.now counts.now sets.now lasts.now numbers.now)) room.new result }
+    room: &mut [u8],
+) -> Result<usize, WriteRefusal>
+    ensures { WritePromise (given_of ids.now counts.now sets.now lasts.now numbers.now) room.old (told result) room.new }
 {
-    let n = ids.len();
-    let table = 4 * numbers.len();
-    let length = table + 12 * n + 12;
-    let p = storing::put_numbers(room, numbers);
-    let q = put_table(room, p, ids, counts, sets, lasts);
-    storing::put_three(room, q, table as u32, n as u32, length as u32)
+    refusing::refusal(ids, counts, sets, lasts, numbers, room.len())?;
+    Ok(put_file(
+        room,
+        Lists {
+            ids,
+            counts,
+            sets,
+            lasts,
+            numbers,
+        },
+    ))
 }
 
 // Writes the file of these lists to the front of the room and answers its length, or refuses by the first refusal that applies, and the room is as it was.
+// Stays with five slices and a number beside a length: so C hands them in and gets it (meskelow_write).
 pub fn write(
     ids: &[u32],
     counts: &[u32],
@@ -60,21 +84,19 @@ pub fn write(
     lasts: &[u8],
     numbers: &[i32],
     room: &mut [u8],
-) -> text::Written
+) -> Written
     ensures { WritePromise (given_of ids.now counts.now sets.now lasts.now numbers.now) room.old result room.new }
 {
-    let number = refusing::refusal(ids, counts, sets, lasts, numbers, room.len());
-    if number != 0 {
-        return text::Written {
-            number,
+    match put(ids, counts, sets, lasts, numbers, room) {
+        Ok(length) => Written {
+            number: 0,
+            place: 0,
+            length,
+        },
+        Err(why) => Written {
+            number: why.number(),
             place: 0,
             length: 0,
-        };
-    }
-    let length = put_file(room, ids, counts, sets, lasts, numbers);
-    text::Written {
-        number: 0,
-        place: 0,
-        length,
+        },
     }
 }

@@ -1,4 +1,5 @@
 pub mod Given
+pub mod Lists
 pub mod File
 pub mod Refusals
 pub mod Rows

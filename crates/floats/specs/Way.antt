@@ -62,3 +62,7 @@ given_point x y = record { x = given x; y = given y }
 -- a position as the code has it
 abbrev pub at : Position → Point Way
 at p = given_point p.x p.y
+
+-- b − a of two positions, each component by itself
+abbrev pub difference : Position → Position → Position
+difference b a = record { x = sub binary64 b.x a.x; y = sub binary64 b.y a.y }

@@ -1,2 +1,4 @@
-pub mod Table
+pub mod Chunks
+pub mod Good
 pub mod Verdicts
+pub mod Table

@@ -1,11 +1,17 @@
 -- The table as the reader comes to it: an entry is read at its place, its id is compared with those before it, and it leaves the end of the triangles behind. Assumes nothing.
-use Prim.Native.Nat.{ℕ, suc, ◌+◌, ◌-◌, ◌*◌, ◌<◌, ◌≤◌}
-use mathlib.Core.Path.{◌≡◌, refl, sym, ap, ◌∙◌}
+use Prim.Native.Nat.{ℕ, zero, suc, ◌+◌, ◌-◌, ◌*◌, ◌/◌, ◌<◌, ◌≤◌}
+use mathlib.Core.Path.{◌≡◌, refl, sym, ap, ap₂, ◌∙◌}
+use Rattle.std.specs.List.{list_any}
+use Rattle.std.specs.Simd.{first_chunks}
+use Rattle.std.proofs.Math.Bool.{or_comm, or-false}
+use Rattle.std.proofs.Common.{length-drop}
+use Rattle.std.proofs.lemmas.List.{drop-drop}
+use Rattle.std.proofs.lemmas.List.Folds.{list_any-append}
 use mathlib.Core.Bool.{Bool, true, false, not, ◌||◌, cond}
 use mathlib.Core.List.{List, [], ◌∷◌, ◌++◌}
 use native.Mathlib.Omega.{arith}
 use native.Mathlib.Nat.{add-zero}
-use lib.ListN.{take, drop}
+use lib.ListN.{length, take, drop, get_or}
 use lib.Dec.{eqb, ltb}
 use borrow.Author.Tests.{eq-eqb, ne_eqb, eqb-true}
 use Rattle.floats.specs.Lists.{any}
@@ -18,6 +24,7 @@ use Rattle.layout.specs.Verdict.{bad_entry, id_again, wrong_end, ids_before, tes
 use Rattle.layout.specs.Stages.{table_rows, entry_number}
 use Rattle.layout.specs.declared.Entry.{Entry}
 use Rattle.layout.proofs.Slices.{four_part, entry_part}
+use Rattle.footprint.proofs.Chunks.{take_chunks, chunk_is, rest_is, last_chunk}
 
 module _ (file : List ℕ) {table : ℕ} (at_table : table ≡ table_place file) where
   pub place_is : (i : ℕ) → table + 12 * i ≡ entry_place file i
@@ -28,25 +35,20 @@ module _ (file : List ℕ) {table : ℕ} (at_table : table ≡ table_place file)
   unfolding entry_at
   entry_is i h = h ∙ ap (entry_from file) (place_is i)
 
-  id_is : (i : ℕ) → (entry_at file i).id ≡ u32_at file (table + 12 * i)
-  unfolding entry_at entry_from
-  id_is i = ap (u32_at file) (sym (place_is i))
-
-  -- the id of the last entry before entry j, and of those before that one
-  seen_step : (j id : ℕ) → 0 < j → is_seen id (ids_before file j) ≡ (eqb id (u32_at file (table + 12 * (j - 1))) || is_seen id (ids_before file (j - 1)))
-  seen_step j id h = let q : j ≡ suc (j - 1) = omega arith in ap (λ n. is_seen id (ids_before file n)) q ∙ more (j - 1)
+  -- the ids of the first entries are those that stand in their arrays
+  pub seen_is : (id i : ℕ) → list_any (λ bytes. eqb id (u32_at bytes 0)) (first_chunks 12 i (drop table file)) ≡ is_seen id (ids_before file i)
+  seen_is id zero = unfold is_seen ids_before any in refl
+  seen_is id (suc i) = ap (list_any (λ bytes. eqb id (u32_at bytes 0))) (last_chunk 12 i (drop table file)) ∙ (list_any-append _ (first_chunks 12 i (drop table file)) (take 12 (drop (12 * i) (drop table file)) ∷ []) ∙ (or_comm (list_any (λ bytes. eqb id (u32_at bytes 0)) (first_chunks 12 i (drop table file))) _ ∙ (ap₂ ◌||◌ (or-false _ ∙ ap (eqb id) (id_there ∙ id_is)) (seen_is id i) ∙ sym (unfold is_seen ids_before any in refl))))
     where
-      more : (i : ℕ) → is_seen id (ids_before file (suc i)) ≡ (eqb id (u32_at file (table + 12 * i)) || is_seen id (ids_before file i))
-      more i = rw (← id_is i) (unfold is_seen ids_before any in refl)
+      id_there : u32_at (take 12 (drop (12 * i) (drop table file))) 0 ≡ u32_at file (table + 12 * i)
+      id_there = rw (drop-drop (12 * i) table file) (four_part file (table + 12 * i) 12 0 (omega arith) ∙ ap (u32_at file) (add-zero (table + 12 * i)))
 
-  pub seen_here : (j id : ℕ) {v : ℕ} → 0 < j → v ≡ u32_at file (table + 12 * (j - 1)) → v ≡ id → true ≡ is_seen id (ids_before file j)
-  seen_here j id h e q = sym (seen_step j id h ∙ rw (eq-eqb id _ (sym q ∙ e)) refl)
+      id_is : u32_at file (table + 12 * i) ≡ (entry_at file i).id
+      id_is = unfold entry_at entry_from in ap (u32_at file) (place_is i)
 
-  pub seen_before : (j id : ℕ) {v : ℕ} → 0 < j → v ≡ u32_at file (table + 12 * (j - 1)) → (v ≡ id → ⊥) → is_seen id (ids_before file j) ≡ is_seen id (ids_before file (j - 1))
-  seen_before j id h e n = seen_step j id h ∙ rw (ne_eqb id (u32_at file (table + 12 * (j - 1))) (λ q. n (e ∙ sym q))) refl
-
-pub seen_none : (file : List ℕ) (j id : ℕ) → j ≤ 0 → false ≡ is_seen id (ids_before file j)
-seen_none file j id h = let q : j ≡ 0 = omega arith in rw q (unfold is_seen ids_before any in refl)
+  -- and an entry is read in its twelve bytes
+  pub entry_in_array : (i : ℕ) {bytes : List ℕ} {e : Entry} → bytes ≡ take 12 (drop (12 * i) (drop table file)) → e ≡ entry_from bytes 0 → e ≡ entry_from file (table + 12 * i)
+  entry_in_array i b h = h ∙ (ap (λ xs. entry_from xs 0) b ∙ rw (drop-drop (12 * i) table file) (entry_part file (table + 12 * i) 12 0 (omega arith) ∙ ap (entry_from file) (add-zero (table + 12 * i))))
 
 -- an id and an entry are read where they were cut out
 pub id_cut : (file : List ℕ) (at : ℕ) {v : ℕ} → v ≡ u32_at (take (at + 4 - at) (drop at file)) 0 → v ≡ u32_at file at
@@ -96,3 +98,15 @@ module _ (file : List ℕ) {count : ℕ} (in_table : count ≡ count_of file) wh
     pub right_end : end ≡ table → good ≡ first_of file (wrong_end ∷ [])
     unfolding first_of test place_of
     right_end h = sym (rw (last, ← at_table, eq-eqb end table h) refl)
+
+-- the entries are fewer than the arrays from the table on
+pub fewer : (file : List ℕ) (table count : ℕ) → table + 12 * count + 12 ≡ length file → count < length (take (length file - table) (drop table file)) / 12
+fewer file table count h = let l : length (take (length file - table) (drop table file)) ≡ length file - table = ap length (rest_is table file) ∙ length-drop table file in omega (arith, l, h)
+
+-- and these arrays, as the code has them
+module _ (file : List ℕ) {table : ℕ} (at_table : table ≡ table_place file) {arrays : List (List ℕ)} {m : ℕ} (are : arrays ≡ first_chunks 12 m (take (length file - table) (drop table file))) where
+  pub seen_of : (id i : ℕ) {seen : Bool} → i ≤ m → seen ≡ list_any (λ bytes. eqb id (u32_at bytes 0)) (take i arrays) → seen ≡ is_seen id (ids_before file i)
+  seen_of id i b h = h ∙ (ap (list_any (λ bytes. eqb id (u32_at bytes 0))) (ap (take i) are ∙ (take_chunks 12 m i _ b ∙ ap (first_chunks 12 i) (rest_is table file))) ∙ seen_is file at_table id i)
+
+  pub array_of : (i : ℕ) (d : List ℕ) → i < m → get_or arrays i d ≡ take 12 (drop (12 * i) (drop table file))
+  array_of i d h = ap (λ xs. get_or xs i d) are ∙ (chunk_is 12 m i _ d h ∙ ap (λ xs. take 12 (drop (12 * i) xs)) (rest_is table file))

@@ -1,138 +1,92 @@
-// The stages of a file's verdict: the trailer, the entries of the table, the triangles. An entry or a triangle is cut out before it is read: the part's length is then a constant, and no test of it is left in the compiled code.
-ghost use Rattle.std.specs.Prelude.{◌≡◌, ◌+◌, ◌*◌, ◌≤◌, ◌<◌, length};
-ghost use Rattle.layout.specs.Parts.{table_place, count_of, triangle_from};
-ghost use Rattle.layout.specs.Rules.{is_seen, triangle_rule};
-ghost use Rattle.layout.specs.Verdict.{ids_before, first_of, number_at, good};
+// The stages of a file's verdict: the trailer, the entries of the table, the triangles. An entry and a triangle are read as arrays of their own length: no test of it is left in the compiled code.
+ghost use Rattle.std.specs.Prelude.{◌≡◌, ◌+◌, ◌*◌, ◌≤◌, nat_eq, IfOk};
+ghost use Rattle.std.specs.List.{list_any};
+ghost use Rattle.layout.specs.Bytes.{u32_at};
+ghost use Rattle.layout.specs.Verdict.{first_of};
 ghost use Rattle.layout.specs.Stages.{trailer_rows, table_rows, triangle_rows};
+ghost use Rattle.layout.specs.Told.{told};
+ghost use Rattle.footprint.specs.Fits.{Fits};
 
-// Where entry i stands.
-fn entry_place(table: usize, i: usize) -> usize
-    requires { (table ≤ 65536) × (i ≤ 64) }
-    ensures { result ≡ table + 12 * i }
-{
-    table + 12 * i
+use layout::{ENTRY, Fault, MOST_BYTES, MOST_RECORDINGS, Refused, TRAILER, TRIANGLE};
+
+// Where the table stands and how many entries it has, as the trailer says.
+#[derive(Clone, Copy)]
+pub(crate) struct Table {
+    pub(crate) place: usize,
+    pub(crate) count: usize,
 }
 
-// Where the trailer ends that belongs to a table of so many entries; in 64 bits, as in 32 the sum can wrap.
-fn trailer_end(table: u32, count: u32) -> usize
-    ensures { result ≡ table + 12 * count + 12 }
+// Refusals 11, 12 and 13.
+pub(crate) fn trailer(file: &[u8]) -> Result<Table, Refused>
+    ensures verdict { told result ≡ first_of file.now (trailer_rows file.now) }
+    ensures fits { IfOk result (λ t. Fits file.now t.place t.count) }
 {
-    table as usize + 12 * count as usize + 12
-}
-
-// Whether one of the first i entries has this id.
-fn is_seen(file: &[u8], table: usize, i: usize, id: u32) -> bool
-    requires { (i ≤ 64) × (table ≡ table_place file.now) × (table + 12 * i ≤ length file.now) × (length file.now ≤ 65536) }
-    ensures { result ≡ is_seen id (ids_before file.now i) }
-{
-    let mut j = i;
-    while 0 < j {
-        j = j - 1;
-        let at = entry_place(table, j);
-        let end = at + 4;
-        if reading::u32_at(&file[at..end], 0) == id {
-            return true;
-        }
+    let n = file.len();
+    if n < TRAILER || MOST_BYTES < n {
+        return Err(refused(Fault::FileLength, 0));
     }
-    false
+    if reading::u32_at(file, n - 4) as usize != n {
+        return Err(refused(Fault::StoredLength, 0));
+    }
+    let place = reading::u32_at(file, n - TRAILER) as usize;
+    let count = reading::u32_at(file, n - 8) as usize;
+    // In 64 bits, as in 32 the sum can wrap.
+    if MOST_RECORDINGS < count || place + ENTRY * count + TRAILER != n {
+        return Err(refused(Fault::Trailer, n - TRAILER));
+    }
+    Ok(Table { place, count })
 }
 
-fn refusal(found: u32, place: usize) -> layout::Verdict
+fn refused(why: Fault, place: usize) -> Refused
     requires { place ≤ 65536 }
-    ensures { result ≡ number_at found place }
+    ensures { result ≡ record { why = why; place = place } }
 {
-    layout::Verdict {
-        number: found,
+    Refused {
+        why,
         place: place as u32,
     }
 }
 
-fn acceptance() -> layout::Verdict
-    ensures { result ≡ good }
+// Whether one of these entries has this id.
+fn is_seen(entries: &[[u8; 12]], id: u32) -> bool
+    ensures { result ≡ list_any (λ bytes. nat_eq id (u32_at bytes 0)) entries.now }
 {
-    layout::Verdict {
-        number: 0,
-        place: 0,
-    }
-}
-
-// Refusals 11, 12 and 13.
-pub(crate) fn trailer(file: &[u8]) -> layout::Verdict
-    ensures { result ≡ first_of file.now (trailer_rows file.now) }
-{
-    let n = file.len();
-    if n < 12 {
-        return refusal(11, 0);
-    }
-    if 65536 < n {
-        return refusal(11, 0);
-    }
-    if reading::u32_at(file, n - 4) as usize != n {
-        return refusal(12, 0);
-    }
-    let count = reading::u32_at(file, n - 8);
-    if 64 < count {
-        return refusal(13, n - 12);
-    }
-    if trailer_end(reading::u32_at(file, n - 12), count) != n {
-        return refusal(13, n - 12);
-    }
-    acceptance()
+    entries.iter().any(|bytes| id == reading::u32_at(bytes, 0))
 }
 
 // Refusals 14 and 16 of each entry in turn, then 15.
-pub(crate) fn entries(file: &[u8], table: usize, count: usize) -> layout::Verdict
-    requires { (count ≤ 64) × (table ≡ table_place file.now) × (count ≡ count_of file.now) × (table + 12 * count + 12 ≡ length file.now) × (length file.now ≤ 65536) }
-    ensures { result ≡ first_of file.now (table_rows file.now) }
+pub(crate) fn entries(file: &[u8], table: Table) -> Result<(), Refused>
+    requires { Fits file.now table.place table.count }
+    ensures { told result ≡ first_of file.now (table_rows file.now) }
 {
-    let mut i: usize = 0;
+    let (entries, _) = file[table.place..].as_chunks::<12>();
     let mut end: u32 = 0;
-    while i < count {
-        let at = entry_place(table, i);
-        let behind = at + 12;
-        let e = reading::entry_at(&file[at..behind], 0);
-        let seen = is_seen(file, table, i, e.id);
-        let number = judge::entry_rule(e, end, seen);
-        if number != 0 {
-            return refusal(number, at);
+    for i in 0..table.count {
+        let at = table.place + ENTRY * i;
+        let e = reading::entry_at(&entries[i], 0);
+        let seen = is_seen(&entries[..i], e.id);
+        // Stays `if let`, as in `triangles`: `map_err(..)?` was tried, and each goal then speaks through the closure's generated names, which answers may not cite.
+        if let Err(why) = judge::entry_rule(e, end, seen) {
+            return Err(refused(why, at));
         }
         end = end + 24 * e.count;
-        i = i + 1;
     }
-    if end as usize != table {
-        return refusal(15, table);
+    if end as usize != table.place {
+        return Err(refused(Fault::Table, table.place));
     }
-    acceptance()
-}
-
-// The number of the triangle that these bytes begin with: 17, 18 or 0.
-fn triangle_number(bytes: &[u8]) -> u32
-    ensures { result ≡ triangle_rule (triangle_from bytes.now 0) }
-{
-    let x0 = reading::u32_at(bytes, 0);
-    let y0 = reading::u32_at(bytes, 4);
-    let x1 = reading::u32_at(bytes, 8);
-    let y1 = reading::u32_at(bytes, 12);
-    let x2 = reading::u32_at(bytes, 16);
-    let y2 = reading::u32_at(bytes, 20);
-    judge::triangle_rule(x0, y0, x1, y1, x2, y2)
+    Ok(())
 }
 
 // Refusals 17 and 18 of each triangle in turn.
-pub(crate) fn triangles(file: &[u8], table: usize) -> layout::Verdict
-    requires { (table ≡ table_place file.now) × (table + 12 ≤ length file.now) × (length file.now ≤ 65536) }
-    ensures { result ≡ first_of file.now (triangle_rows file.now) }
+pub(crate) fn triangles(file: &[u8], table: Table) -> Result<(), Refused>
+    requires { Fits file.now table.place table.count }
+    ensures { told result ≡ first_of file.now (triangle_rows file.now) }
 {
-    let n = table / 24;
-    let mut k: usize = 0;
-    while k < n {
-        let place = 24 * k;
-        let behind = place + 24;
-        let number = triangle_number(&file[place..behind]);
-        if number != 0 {
-            return refusal(number, place);
+    let (triangles, _) = file[..table.place].as_chunks::<24>();
+    for (k, bytes) in triangles.iter().enumerate() {
+        if let Err(why) = judge::triangle_rule(reading::six_of(bytes)) {
+            return Err(refused(why, TRIANGLE * k));
         }
-        k = k + 1;
     }
-    acceptance()
+    Ok(())
 }

@@ -1,5 +1,5 @@
 -- The code's test for a pair that is far says exactly that. Assumes nothing.
-use mathlib.Core.Path.{◌≡◌, refl, sym, ap₂, ◌∙◌}
+use mathlib.Core.Path.{◌≡◌, refl, sym, ◌∙◌}
 use mathlib.Core.Logic.{◌↔◌}
 use mathlib.Core.Bool.{Bool, true, false, not, ◌&&◌, true≢false, false≢true}
 use mathlib.Core.List.{List}
@@ -10,12 +10,13 @@ use lib.Ieee.{Float}
 use Rattle.floats.specs.Lists.{all}
 use Rattle.floats.specs.Finite.{finite}
 use Rattle.floats.proofs.Lists.{so, os, all_at, all_of}
+use Rattle.std.specs.Array.{IsWholeChunk}
+use Rattle.floats.specs.declared.Triangle.{Triangle}
 use Rattle.boxes.specs.declared.Box.{Box}
-use Rattle.boxes.specs.Boxes.{share_point}
-use Rattle.boxes.specs.Shared.{box_around}
-use Rattle.boxes.specs.Near.{corners_of_u, corners_of_v, is_near, Far}
+use Rattle.boxes.specs.Boxes.{box_of, share_point}
+use Rattle.boxes.specs.Near.{is_near, Far}
 use Rattle.boxes.proofs.Pairs.{boxes_tell}
-use Rattle.front.specs.Front.{far_by}
+use Rattle.front.specs.Front.{far_by, triangle_from}
 
 both : (a b : Bool) → (a && b) ≡ true → (a ≡ true) × (b ≡ true)
 both true b h = (refl, h)
@@ -24,6 +25,9 @@ both false b h = absurd (false≢true h)
 not-true : (b : Bool) → not b ≡ true → b ≡ false
 not-true true h = absurd (false≢true h)
 not-true false h = refl
+
+abbrev box_of_triangle : Triangle → Box
+box_of_triangle t = box_of t.a.x t.a.y t.b.x t.b.y t.c.x t.c.y
 
 module _ (l : List Float) where
   pub is_far : (far_by l ≡ true) ↔ Far l
@@ -47,15 +51,15 @@ module _ (l : List Float) where
   unfolding far_by
   other_length h = sym (rw (ne_eqb (length l) 12 h) refl)
 
-  module _ {u v : Box} {s : Bool} (hu : u ≡ box_around (corners_of_u l)) (hv : v ≡ box_around (corners_of_v l)) (hs : s ≡ share_point u v) where
+  module _ {t : List Float} {p : Triangle × Triangle} {u v : Box} {s : Bool} (ht : IsWholeChunk l t 12) (hp : p ≡ (triangle_from t 0, triangle_from t 6)) (hu : u ≡ box_of_triangle p.0) (hv : v ≡ box_of_triangle p.1) (hs : s ≡ share_point u v) where
     near_is : is_near l ≡ s
     unfolding is_near
-    near_is = sym (hs ∙ ap₂ share_point hu hv)
+    near_is = sym (hs ∙ rw (hu, hv, hp, ht.same) refl)
 
-    pub sharing : length l ≡ 12 → s ≡ true → false ≡ far_by l
+    pub sharing : s ≡ true → false ≡ far_by l
     unfolding far_by
-    sharing n h = sym (rw (eq-eqb (length l) 12 n, near_is ∙ h) refl)
+    sharing h = sym (rw (eq-eqb (length l) 12 ht.long, near_is ∙ h) refl)
 
-    pub sharing_none : length l ≡ 12 → s ≡ false → {r : Bool} → r ≡ all finite l → r ≡ far_by l
+    pub sharing_none : s ≡ false → {r : Bool} → r ≡ all finite t → r ≡ far_by l
     unfolding far_by
-    sharing_none n h e = e ∙ sym (rw (eq-eqb (length l) 12 n, near_is ∙ h) refl)
+    sharing_none h e = e ∙ sym (rw (eq-eqb (length l) 12 ht.long, near_is ∙ h, ht.same) refl)

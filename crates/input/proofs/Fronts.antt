@@ -13,6 +13,8 @@ use Rattle.text.proofs.Room.{no_second_put, whole_or_nothing, Put-none}
 use Rattle.layout.specs.declared.Verdict.{Verdict}
 use Rattle.layout.specs.Verdict.{number_at}
 use Rattle.layout.proofs.Worked.{too_long_lem}
+use Rattle.layout.proofs.Returned.{file_first_lem}
+use Rattle.listing.specs.Words.{refused_line}
 use Rattle.arrival.specs.declared.State.{State}
 use Rattle.arrival.specs.declared.Arrival.{Arrival}
 use Rattle.arrival.specs.Promise.{EndPromise}
@@ -27,7 +29,7 @@ use Rattle.input.specs.declared.Got.{Got}
 use Rattle.input.specs.declared.Piece.{Piece}
 use Rattle.input.specs.declared.Piece.TheVariants.{Failed, Ended, More}
 use Rattle.input.specs.Reading.{is_read, Gathered}
-use Rattle.input.specs.Answer.{AtFront, NoSecondFront, said_by, output_for, ByRefusal, Delivered, Deliverable, Replied}
+use Rattle.input.specs.Answer.{AtFront, NoSecondFront, said_by, output_for, ByRefusal, said_of, Delivered, Deliverable, Replied}
 
 -- the text stands at the front
 stands : {text room after : List ℕ} {n : ℕ} → AtFront text room n after → take n after ≡ text
@@ -140,3 +142,16 @@ module _ (line : Verdict → List ℕ) (says : List ℕ → List ℕ) (refusals 
   replied size {room} {after} {n} p =
       let q = subst (λ t. AtFront t room n after) output_is p in
       record { size = sym (same_size gathered.so_far) ∙ size; gathered = gathered; said = q; whole = λ ok input d. stands q ∙ (rw ok refl ∙ of_input ok input d) }
+
+-- in a buffer of another length nothing is read, and nothing is said
+module _ (line : Verdict → List ℕ) (says : List ℕ → List ℕ) (room : List ℕ) where
+  pub of_other_length : {lent buffer after : List ℕ} {g : Got} {n : ℕ} → Gathered lent g buffer → (length lent ≡ 65536 → ⊥) → AtFront (output_for line says g buffer) room n after → AtFront [] room n after
+  of_other_length {lent} {buffer} {after} {g} {n} gathered other p = subst (λ t. AtFront t room n after) (go (is_read g.last) refl) p
+    where
+      go : (b : Bool) → is_read g.last ≡ b → output_for line says g buffer ≡ []
+      go true e = absurd (other (gathered.size e))
+      go false e = rw e refl
+
+-- what a command says of a refused file is its line
+pub of_any_refused : (answers : List ℕ → List ℕ) → ByRefusal refused_line (said_of answers)
+of_any_refused answers file h = file_first_lem (List ℕ) file refused_line (answers file) h

@@ -3,6 +3,8 @@ use Rattle.std.specs.Prelude.{ℕ, ◌<◌, ◌≤◌, min, ◌≡◌, true, con
 use Rattle.text.specs.Room.{Put}
 use Rattle.layout.specs.Verdict.{number_at, verdict}
 use Rattle.layout.specs.declared.Verdict.{Verdict}
+use Rattle.layout.specs.Recordings.{unless_refused}
+use Rattle.listing.specs.Words.{refused_line}
 use Rattle.arrival.specs.declared.Arrival.{Arrival}
 use Rattle.arrival.specs.Calls.{the_end, counted, called}
 use Rattle.arrival.specs.Whole.{file_of}
@@ -38,6 +40,10 @@ module _ (line : Verdict → List ℕ) (says : List ℕ → List ℕ) where
   -- what is to be said of a refused file is its line
   abbrev pub ByRefusal : Type 0
   ByRefusal = (file : List ℕ) → ((verdict file).number ≡ 0 → ⊥) → says file ≡ line (verdict file)
+
+-- what a command says of any file: of a good one its answer, of any other the line of its refusal
+abbrev pub said_of : (List ℕ → List ℕ) → List ℕ → List ℕ
+said_of answers file = unless_refused file refused_line (answers file)
 
 -- ---- the input
 -- what is trusted of the reads, and of the lines that call them: the bytes in the buffer are the input's, from its first on, as many as the count tells, or as the buffer has; the input has as many; and where a read says that it has ended, there are no more

@@ -1,22 +1,18 @@
-// The reading of a file as it arrives: what one read's answer says, all reads together, each one's bytes a piece of the file, and whether what arrived may be answered.
+// The reading of a file as it arrives: what one read's answer says, all reads together, each one's bytes a piece of the file, whether what arrived may be answered, and what a command says of it.
 #![tactic(auto)]
 
-ghost use Rattle.std.specs.Prelude.{◌≡◌, min, length, take};
+ghost use Rattle.std.specs.Prelude.{◌≡◌, ◌≤◌, ℕ, List, [], length, take};
 ghost use Rattle.arrival.specs.Calls.{piece};
 ghost use Rattle.arrival.specs.Promise.{CallPromise};
 ghost use Rattle.input.specs.Reading.{piece_of, is_read, Gathered};
-ghost use Rattle.input.specs.Answer.{Took};
+ghost use Rattle.listing.specs.Words.{refused_line};
+ghost use Rattle.input.specs.Answer.{Took, AtFront, said_of, said_by, output_for, Replied};
 
-use arrival::{Arrival, State};
+use arrival::{Arrival, SIZE, State, TOO_MANY};
 use std::io::Read;
 
-// The length of the buffer that a file arrives in.
-const SIZE: usize = 65536;
-
-// So many have arrived when more than a file may have.
-const TOO_MANY: u32 = 65537;
-
 // What one read's answer says.
+// Stays an enum of its own: `Took`, `Gathered`, `MoreWithin` and `Delivered` (specs) speak of its variants.
 #[derive(Clone, Copy)]
 pub enum Piece {
     Failed,
@@ -38,20 +34,15 @@ pub struct Reply {
     pub n: usize,
 }
 
-fn least(a: usize, b: usize) -> usize
-    ensures { result ≡ min a b }
-{
-    if a < b { a } else { b }
-}
-
 // How the answer of a read of at most so many bytes is taken: a negative number as a failure, 0 as the end of the input, any other as so many bytes.
+// Stays with a number: its promise (`piece_of`), `Moved` and `MoreWithin` (specs) speak of an answer that can be negative.
 pub fn piece_of(got: isize, most: usize) -> Piece
     ensures { result ≡ piece_of most got }
 {
     if got < 0 {
         return Piece::Failed;
     }
-    let n = least(got as usize, most);
+    let n = most.min(got as usize);
     if n == 0 {
         return Piece::Ended;
     }
@@ -62,8 +53,7 @@ pub fn piece_of(got: isize, most: usize) -> Piece
 pub fn is_read(g: Got) -> bool
     ensures { result ≡ is_read g.last }
 {
-    let last = g.last;
-    match last {
+    match g.last {
         Piece::Failed => false,
         Piece::Ended => true,
         Piece::More(_) => true,
@@ -98,6 +88,7 @@ pub fn read_all<R: Read>(reader: &mut R, buffer: &mut [u8]) -> Got
         return Got { arrived, last };
     }
     let mut part = [0u8; SIZE];
+    // Stays a `while`: nothing is gone through; a read's answer or the count that a piece's answer has ends it.
     while arrived < TOO_MANY {
         last = read_some(reader, &mut part);
         let Piece::More(k) = last else {
@@ -107,4 +98,66 @@ pub fn read_all<R: Read>(reader: &mut R, buffer: &mut [u8]) -> Got
         arrived = a.arrived;
     }
     Got { arrived, last }
+}
+
+// A command that says something of a file, in a room of so many bytes.
+pub trait Command<const ROOM: usize> {
+    // What it says of a good file's bytes.
+    ghost answers: { Self → List ℕ → List ℕ };
+
+    // Puts that at the front of the room, or the line that says how the file is refused; its length.
+    fn put(&self, file: &[u8], room: &mut [u8; ROOM]) -> usize
+        ensures { AtFront (said_of (answers self.now) file.now) room.old result room.new };
+
+    // The room is large enough for the line of any refusal.
+    ghost has_room: { 64 ≤ ROOM };
+}
+
+// What is to be said by what the end answered: of a refused file its line, else of the file at the buffer's front.
+fn said<const ROOM: usize, C: Command<ROOM>>(
+    c: &C,
+    a: Arrival,
+    buffer: &[u8],
+    room: &mut [u8; ROOM],
+) -> usize
+    ensures { AtFront (said_by refused_line (said_of (C.answers c.now)) a buffer.now) room.old result room.new }
+{
+    if a.number != 0 {
+        return wording::put_refusal(room, a.number, a.place).unwrap_or(0);
+    }
+    let n = a.arrived as usize;
+    c.put(text::front(buffer, n), room)
+}
+
+// What is to be said of the input, of which so much has arrived in the buffer: nothing, where a read failed.
+fn answer<const ROOM: usize, C: Command<ROOM>>(
+    c: &C,
+    g: Got,
+    buffer: &[u8],
+    room: &mut [u8; ROOM],
+) -> usize
+    ensures { AtFront (output_for refused_line (said_of (C.answers c.now)) g buffer.now) room.old result room.new }
+{
+    let arrived = g.arrived;
+    if is_read(g) {
+        let a = arriving::end(State { arrived, ended: 0 }, buffer);
+        return said(c, a, buffer, room);
+    }
+    0
+}
+
+// Takes the input into the buffer as it arrives, and puts what the command says of it at the front of the room: nothing, where a read failed or the buffer has another length than 65,536.
+pub fn reply_to<const ROOM: usize, C: Command<ROOM>, R: Read>(
+    c: &C,
+    reader: &mut R,
+    buffer: &mut [u8],
+    room: &mut [u8; ROOM],
+) -> Reply
+    ensures replied { length buffer.old ≡ 65536 → Replied (said_of (C.answers c.now)) buffer.old room.old result buffer.new room.new }
+    ensures nothing { (length buffer.old ≡ 65536 → ⊥) → AtFront [] room.old result.n room.new }
+    ensures gathered { Gathered buffer.old result.got buffer.new }
+{
+    let got = read_all(reader, buffer);
+    let n = answer(c, got, buffer, room);
+    Reply { got, n }
 }

@@ -1,9 +1,11 @@
 -- The code's way to a triangle's number. Numbers that are counted from the lower end of the range are out of it exactly where the numbers themselves are, and have the same differences, so the same cross; and this is exact in 64 bits: differences
 -- stay within 4,000,000, products within 16·10^12. Assumes nothing.
-use Prim.Native.Nat.{ℕ, suc, ◌+◌, ◌-◌, ◌<◌, ◌≤◌}
+use Prim.Native.Nat.{ℕ, zero, suc, ◌+◌, ◌-◌, ◌<◌, ◌≤◌}
 use mathlib.Core.Path.{◌≡◌, refl, sym, ap, ap₂, ◌∙◌}
 use mathlib.Core.Bool.{Bool, true, false, ◌||◌, false≢true}
-use mathlib.Core.List.{[], ◌∷◌}
+use mathlib.Core.List.{List, [], ◌∷◌}
+use lib.ListN.{get_or}
+use Rattle.std.specs.List.{list_any}
 use native.Mathlib.Omega.{arith}
 use lib.Dec.{lit<, eqb, ltb}
 use lib.IntN.{ℤ, pos, negsuc, neg_ℤ, nat_abs, ◌+ℤ◌, ◌-ℤ◌, ◌*ℤ◌, +ℤ_assoc, +ℤ_comm, +ℤ_invr, +ℤ_idl, neg_ℤ-+ℤ}
@@ -142,7 +144,7 @@ neither true b h = absurd (false≢true (sym h))
 neither false b h = (refl, h)
 
 pub all_in : (a b c d e f : ℕ) → is_above_top (a ∷ b ∷ c ∷ d ∷ e ∷ f ∷ []) ≡ false → In a × In b × In c × In d × In e × In f
-unfolding is_above_top any
+unfolding any
 all_in a b c d e f h =
     let p = neither (ltb 2000000 a) _ h in
     let q = neither (ltb 2000000 b) _ p.1 in
@@ -154,7 +156,7 @@ all_in a b c d e f h =
 
 module _ (x0 y0 x1 y1 x2 y2 : ℕ) (l0 : x0 < 4294967296) (m0 : y0 < 4294967296) (l1 : x1 < 4294967296) (m1 : y1 < 4294967296) (l2 : x2 < 4294967296) (m2 : y2 < 4294967296) where
   range_is : is_above_top (from_bottom x0 ∷ from_bottom y0 ∷ from_bottom x1 ∷ from_bottom y1 ∷ from_bottom x2 ∷ from_bottom y2 ∷ []) ≡ is_out_of_range (triangle_of (signed x0) (signed y0) (signed x1) (signed y1) (signed x2) (signed y2))
-  unfolding is_above_top is_out_of_range any
+  unfolding is_out_of_range any
   range_is = rw (far_is x0 l0, far_is y0 m0, far_is x1 l1, far_is y1 m1, far_is x2 l2, far_is y2 m2) refl
 
   flat_is : In (from_bottom x0) → In (from_bottom y0) → In (from_bottom x1) → In (from_bottom y1) → In (from_bottom x2) → In (from_bottom y2)
@@ -183,3 +185,15 @@ module _ (x0 y0 x1 y1 x2 y2 : ℕ) (l0 : x0 < 4294967296) (m0 : y0 < 4294967296)
     pub says_0 : out ≡ false → {zero : Bool} → zero ≡ is_flat (triangle_of (pos a) (pos b) (pos c) (pos d) (pos e) (pos f)) → zero ≡ false → 0 ≡ triangle_rule (triangle_of (signed x0) (signed y0) (signed x1) (signed y1) (signed x2) (signed y2))
     unfolding triangle_rule
     says_0 h z k = sym (rw (sym told_range ∙ h, sym (told_flat h z) ∙ k) refl)
+
+-- `any` of the rules is that of the library
+pub any_is : {A : Type 0} (f : A → Bool) (xs : List A) → any f xs ≡ list_any f xs
+unfolding any
+any_is f [] = refl
+any_is f (x ∷ xs) = ap (f x ||◌) (any_is f xs)
+
+-- where none of these is above the top, each is in range, one beyond the end too
+pub within : (numbers : List ℕ) → is_above_top numbers ≡ false → (k : ℕ) → get_or numbers k 0 ≤ 2000000
+within [] h k = omega arith
+within (n ∷ ns) h zero = ltb-false _ _ (neither (ltb 2000000 n) _ h).0
+within (n ∷ ns) h (suc k) = within ns (neither (ltb 2000000 n) _ h).1 k

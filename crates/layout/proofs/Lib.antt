@@ -12,3 +12,4 @@ pub mod Stages
 pub mod Worked
 pub mod Fronts
 pub mod Before
+pub mod Told

@@ -1,5 +1,5 @@
 -- 01, "The footprint file": little-endian numbers in a list of bytes. Definitions only.
-use Rattle.std.specs.Prelude.{ℕ, ◌+◌, ◌*◌, ◌<◌, cond, List, get_or, ltb, ℤ, pos, ◌-ℤ◌}
+use Rattle.std.specs.Prelude.{ℕ, ◌+◌, ◌*◌, ◌<◌, cond, List, [], ◌∷◌, get_or, ltb, ℤ, pos, ◌-ℤ◌}
 
 -- every number of the list is a byte
 abbrev pub Bytes : List ℕ → Type 0
@@ -29,3 +29,8 @@ signed v = cond (ltb v 2147483648) (pos v) (pos v -ℤ pos 4294967296)
 unfoldable pub i32_at : List ℕ → ℕ → ℤ
 unfolding signed u32_at
 i32_at bytes at = signed (u32_at bytes at)
+
+-- the six numbers that a triangle is stored by, each by its 32 bits
+unfoldable pub six_of : List ℕ → List ℕ
+unfolding u32_at
+six_of bytes = u32_at bytes 0 ∷ u32_at bytes 4 ∷ u32_at bytes 8 ∷ u32_at bytes 12 ∷ u32_at bytes 16 ∷ u32_at bytes 20 ∷ []

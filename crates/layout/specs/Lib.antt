@@ -3,6 +3,7 @@ pub mod Parts
 pub mod Rules
 pub mod Verdict
 pub mod Stages
+pub mod Told
 pub mod Code
 pub mod Layout
 pub mod Rows

@@ -1,8 +1,8 @@
 -- 01, "The footprint file": what stands where. A file is a list of bytes, a place a natural number, counted from the front; natural numbers have no largest, so a sum of them is the sum.
 -- Definitions only.
-use Rattle.std.specs.Prelude.{ℕ, zero, suc, ◌+◌, ◌-◌, ◌*◌, ◌/◌, List, [], ◌∷◌, length, ℤ}
+use Rattle.std.specs.Prelude.{ℕ, zero, suc, ◌+◌, ◌-◌, ◌*◌, ◌/◌, List, [], ◌∷◌, length, get_or, ℤ}
 use Rattle.floats.specs.Numbers.{Point}
-use Rattle.layout.specs.Bytes.{byte_at, u16_at, u32_at, i32_at}
+use Rattle.layout.specs.Bytes.{byte_at, u16_at, u32_at, signed, i32_at}
 use Rattle.layout.specs.declared.Entry.{Entry}
 
 -- three vertices, in whole centimetres
@@ -11,10 +11,15 @@ pub record Triangle : Type 0 where
   pub v1 : Point ℤ
   pub v2 : Point ℤ
 
--- by its six numbers, in their order, and these again
+-- by its six numbers, in their order
 abbrev pub triangle_of : ℤ → ℤ → ℤ → ℤ → ℤ → ℤ → Triangle
 triangle_of x0 y0 x1 y1 x2 y2 = record { v0 = record { x = x0; y = y0 }; v1 = record { x = x1; y = y1 }; v2 = record { x = x2; y = y2 } }
 
+-- by six numbers as they are stored, each by its 32 bits
+abbrev pub triangle_by : List ℕ → Triangle
+triangle_by six = triangle_of (signed (get_or six 0 0)) (signed (get_or six 1 0)) (signed (get_or six 2 0)) (signed (get_or six 3 0)) (signed (get_or six 4 0)) (signed (get_or six 5 0))
+
+-- and these again
 abbrev pub numbers_of : Triangle → List ℤ
 numbers_of t = t.v0.x ∷ t.v0.y ∷ t.v1.x ∷ t.v1.y ∷ t.v2.x ∷ t.v2.y ∷ []
 

@@ -10,6 +10,7 @@ use mathlib.Core.Logic.{⊎_elim}
 use native.Mathlib.Omega.{arith}
 use native.Mathlib.Nat.{add-zero}
 use native.Mathlib.Numerals.{add-one}
+use lib.ListN.{length}
 use lib.Ieee.{Float}
 use Rattle.floats.specs.Finite.{finite}
 use Rattle.triangles.specs.declared.Decision.{Decision}
@@ -21,7 +22,7 @@ use Rattle.boxes.specs.Boxes.{share_point}
 use Rattle.boxes.specs.Shared.{FiniteBox}
 use Rattle.boxes.specs.Near.{is_near, TwelveFinite}
 use Rattle.boxes.proofs.Points.{box_finite}
-use Rattle.boxed.specs.Tables.{box_in, box_over, next_near, FiniteFrom}
+use Rattle.boxed.specs.Tables.{box_among, around_from, near_from, FiniteFrom}
 use Rattle.boxed.proofs.Rows.{none_of_either, none_of_them, passes_over}
 use Rattle.routine.specs.Code.{rules_by}
 use Rattle.routine.proofs.Decisions.{rules_of_made}
@@ -30,7 +31,7 @@ use Rattle.listing.specs.Turns.{up_to, each, folded}
 use Rattle.listing.specs.Pairs.{none_yet, tallied}
 use Rattle.listing.proofs.Turns.{map-append, folded-append, each_append, each_one}
 use Rattle.listing.proofs.Never.{by_boxes}
-use Rattle.leaklist.specs.Code.{shape_in, ReadyAt, ReadyFrom, values_in, row_in, tallied_near, tally_in}
+use Rattle.leaklist.specs.Code.{shape_in, ReadyAt, AllReady, values_in, row_in, tallied_near, tally_in}
 
 one_more : (n : ℕ) → up_to (n + 1) ≡ up_to n ++ (n ∷ [])
 one_more n = ap up_to (add-one n) ∙ (unfold up_to in refl)
@@ -48,27 +49,27 @@ adds_near : (l : List Float) → TwelveFinite l → is_near l ≡ true → (t : 
 adds_near l g h t = rw ((by_boxes l g).ruled h, h) refl
 
 -- ---- two triangles of the table
-module _ (table bounds : List Float) where
+module _ (table : List Shape) (bounds : List Box) where
   given_in : (i j : ℕ) → ReadyAt table bounds i → ReadyAt table bounds j → TwelveFinite (values_in table i j)
   given_in i j p q = record { twelve = refl; all_finite = λ v m. ⊎_elim (p.all_finite v) (q.all_finite v) (Memᴰ.append_cases (six_of (shape_in table i)) m) }
 
-  near_in : (i j : ℕ) → ReadyAt table bounds i → ReadyAt table bounds j → is_near (values_in table i j) ≡ share_point (box_in bounds i) (box_in bounds j)
+  near_in : (i j : ℕ) → ReadyAt table bounds i → ReadyAt table bounds j → is_near (values_in table i j) ≡ share_point (box_among bounds i) (box_among bounds j)
   unfolding is_near
   near_in i j p q = sym (ap₂ share_point p.framed q.framed)
 
-  far_in : (i j : ℕ) → ReadyAt table bounds i → ReadyAt table bounds j → share_point (box_in bounds i) (box_in bounds j) ≡ false → (t : Tally) → tallied t (values_in table i j) ≡ t
+  far_in : (i j : ℕ) → ReadyAt table bounds i → ReadyAt table bounds j → share_point (box_among bounds i) (box_among bounds j) ≡ false → (t : Tally) → tallied t (values_in table i j) ≡ t
   far_in i j p q h = (by_boxes (values_in table i j) (given_in i j p q)).adds (near_in i j p q ∙ h)
 
-  counted_in : (i j : ℕ) → ReadyAt table bounds i → ReadyAt table bounds j → share_point (box_in bounds i) (box_in bounds j) ≡ true → (t : Tally) → tallied t (values_in table i j) ≡ tallied_near t (rules_by (shape_in table i) (shape_in table j))
+  counted_in : (i j : ℕ) → ReadyAt table bounds i → ReadyAt table bounds j → share_point (box_among bounds i) (box_among bounds j) ≡ true → (t : Tally) → tallied t (values_in table i j) ≡ tallied_near t (rules_by (shape_in table i) (shape_in table j))
   counted_in i j p q h t = adds_near (values_in table i j) (given_in i j p q) (near_in i j p q ∙ h) t ∙ ap (tallied_near t) (sym (rules_of_made (shape_in table i) (shape_in table j) (p.made, q.made)))
 
-  finite_in : (k : ℕ) → ReadyAt table bounds k → FiniteBox (box_in bounds k)
-  finite_in k p = subst FiniteBox (sym p.framed) (box_finite (record { x0 = s.x0; y0 = s.y0; x1 = s.x1; y1 = s.y1; x2 = s.x2; y2 = s.y2 }) fine)
+  finite_in : (k : ℕ) → ReadyAt table bounds k → FiniteBox (box_among bounds k)
+  finite_in k p = subst FiniteBox (sym p.framed) (box_finite (record { x0 = s.v0.x; y0 = s.v0.y; x1 = s.v1.x; y1 = s.v1.y; x2 = s.v2.x; y2 = s.v2.y }) fine)
     where
       s : Shape
       s = shape_in table k
 
-      fine : (v : Float) → Memᴰ v (s.x0 ∷ s.x1 ∷ s.x2 ∷ s.y0 ∷ s.y1 ∷ s.y2 ∷ []) → finite v ≡ true
+      fine : (v : Float) → Memᴰ v (s.v0.x ∷ s.v1.x ∷ s.v2.x ∷ s.v0.y ∷ s.v1.y ∷ s.v2.y ∷ []) → finite v ≡ true
       fine v (here e) = p.all_finite v (here e)
       fine v (there (here e)) = p.all_finite v (there (there (here e)))
       fine v (there (there (here e))) = p.all_finite v (there (there (there (there (here e)))))
@@ -102,23 +103,29 @@ module _ (table bounds : List Float) where
   unfolding row_in up_to folded
   row_empty t i j = refl
 
-  module _ (i j n : ℕ) (first : ReadyAt table bounds i) (each-ready : ReadyFrom table bounds j n) where
+  module _ (i j n : ℕ) (all : AllReady table bounds) (hi : i < length table) (hj : j + n ≤ length table) where
+    first : ReadyAt table bounds i
+    first = all i hi
+
+    each-ready : (c : ℕ) → c < n → ReadyAt table bounds (j + c)
+    each-ready c h = all (j + c) (omega (arith, h, hj))
+
     -- from k on to the next that is near
-    pub row_on : (t : Tally) (k : ℕ) {s : Tally} {b : Box} {k' : ℕ} → j ≤ k → k ≤ j + n → b ≡ box_in bounds i → s ≡ folded tallied t (row_in table i j (k - j)) → k' ≡ next_near bounds b (j + n - k) k →
-        (k ≤ k') × (k' ≤ j + n) × (s ≡ folded tallied t (row_in table i j (k' - j))) × (k' < j + n → share_point (box_in bounds i) (box_in bounds k') ≡ true)
+    pub row_on : (t : Tally) (k : ℕ) {s : Tally} {b : Box} {k' : ℕ} → j ≤ k → k ≤ j + n → b ≡ box_among bounds i → s ≡ folded tallied t (row_in table i j (k - j)) → k' ≡ near_from (box_among bounds) b (j + n - k) k →
+        (k ≤ k') × (k' ≤ j + n) × (s ≡ folded tallied t (row_in table i j (k' - j))) × (k' < j + n → share_point (box_among bounds i) (box_among bounds k') ≡ true)
     row_on t k {s} {b} {k'} low high hb hs hk =
-        let p = passes_over bounds (box_in bounds i) (j + n - k) k in
-        let e : k' ≡ next_near bounds (box_in bounds i) (j + n - k) k = hk ∙ ap (λ x. next_near bounds x (j + n - k) k) hb in
+        let p = passes_over (box_among bounds) (box_among bounds i) (j + n - k) k in
+        let e : k' ≡ near_from (box_among bounds) (box_among bounds i) (j + n - k) k = hk ∙ ap (λ x. near_from (box_among bounds) x (j + n - k) k) hb in
         let least = p.least in
         let most = p.most in
         let le : k ≤ k' = omega (arith, e, least) in
         let ge : k' ≤ j + n = omega (arith, e, most, high) in
         let parts : k' - j ≡ k - j + (k' - k) = omega (arith, low, le) in
         let same = row_skip t i j (k - j) (k' - k) (λ c l h. far_in i (j + c) first (each-ready c (omega (arith, l, h, low, ge, le))) (p.none (j + c) (omega (arith, l, low)) (omega (arith, h, low, e, le)))) in
-        (le, ge, hs ∙ (sym same ∙ ap (λ m. folded tallied t (row_in table i j m)) (sym parts)), λ h. subst (λ m. share_point (box_in bounds i) (box_in bounds m) ≡ true) (sym e) (p.one (omega (arith, e, h, high))))
+        (le, ge, hs ∙ (sym same ∙ ap (λ m. folded tallied t (row_in table i j m)) (sym parts)), λ h. subst (λ m. share_point (box_among bounds i) (box_among bounds m) ≡ true) (sym e) (p.one (omega (arith, e, h, high))))
 
     -- the one at k counted
-    pub row_turn : (t : Tally) (k : ℕ) {s r : Tally} {u v : Shape} {d : Decision} → j ≤ k → k < j + n → u ≡ shape_in table i → v ≡ shape_in table k → share_point (box_in bounds i) (box_in bounds k) ≡ true → d ≡ rules_by u v → s ≡ folded tallied t (row_in table i j (k - j)) → r ≡ tallied_near s d → r ≡ folded tallied t (row_in table i j (k + 1 - j))
+    pub row_turn : (t : Tally) (k : ℕ) {s r : Tally} {u v : Shape} {d : Decision} → j ≤ k → k < j + n → u ≡ shape_in table i → v ≡ shape_in table k → share_point (box_among bounds i) (box_among bounds k) ≡ true → d ≡ rules_by u v → s ≡ folded tallied t (row_in table i j (k - j)) → r ≡ tallied_near s d → r ≡ folded tallied t (row_in table i j (k + 1 - j))
     row_turn t k {s} {r} {u} {v} {d} low high hu hv near hd hs hr =
         let at : j + (k - j) ≡ k = omega (arith, low) in
         let behind : k - j + 1 ≡ k + 1 - j = omega (arith, low) in
@@ -134,7 +141,7 @@ module _ (table bounds : List Float) where
     row_start t = let z : 0 ≡ j - j = omega arith in row_empty t i j ∙ ap (λ m. folded tallied t (row_in table i j m)) z
 
     -- where none of n is near, none is counted
-    row_far : ((c : ℕ) → c < n → share_point (box_in bounds i) (box_in bounds (j + c)) ≡ false) → (t : Tally) → folded tallied t (row_in table i j n) ≡ t
+    row_far : ((c : ℕ) → c < n → share_point (box_among bounds i) (box_among bounds (j + c)) ≡ false) → (t : Tally) → folded tallied t (row_in table i j n) ≡ t
     row_far none t =
         ap (λ m. folded tallied t (row_in table i j m)) (from_none n)
         ∙ (row_skip t i j 0 n (λ c l h. far_in i (j + c) first (each-ready c (omega (arith, h))) (none c (omega (arith, h)))) ∙ sym (row_empty t i j))
@@ -165,20 +172,20 @@ module _ (table bounds : List Float) where
   unfolding tally_in up_to each folded
   tally_empty i j n = refl
 
-  finite_from : (j n : ℕ) → ReadyFrom table bounds j n → FiniteFrom bounds j n
-  finite_from j n ready c h = finite_in (j + c) (ready c h)
+  finite_from : (j n : ℕ) → AllReady table bounds → j + n ≤ length table → FiniteFrom (box_among bounds) j n
+  finite_from j n all hj c h = finite_in (j + c) (all (j + c) (omega (arith, h, hj)))
 
-  module _ (i m j n : ℕ) (tests-ready : ReadyFrom table bounds i m) (each-ready : ReadyFrom table bounds j n) where
-    pub tally_on : (k : ℕ) {s : Tally} {whole : Box} {k' : ℕ} → i ≤ k → k ≤ i + m → whole ≡ box_over bounds j n → s ≡ tally_in table i (k - i) j n → k' ≡ next_near bounds whole (i + m - k) k → (k ≤ k') × (k' ≤ i + m) × (s ≡ tally_in table i (k' - i) j n)
+  module _ (i m j n : ℕ) (all : AllReady table bounds) (hi : i + m ≤ length table) (hj : j + n ≤ length table) where
+    pub tally_on : (k : ℕ) {s : Tally} {whole : Box} {k' : ℕ} → i ≤ k → k ≤ i + m → whole ≡ around_from (box_among bounds) j n → s ≡ tally_in table i (k - i) j n → k' ≡ near_from (box_among bounds) whole (i + m - k) k → (k ≤ k') × (k' ≤ i + m) × (s ≡ tally_in table i (k' - i) j n)
     tally_on k {s} {whole} {k'} low high hw hs hk =
-        let p = passes_over bounds (box_over bounds j n) (i + m - k) k in
-        let e : k' ≡ next_near bounds (box_over bounds j n) (i + m - k) k = hk ∙ ap (λ x. next_near bounds x (i + m - k) k) hw in
+        let p = passes_over (box_among bounds) (around_from (box_among bounds) j n) (i + m - k) k in
+        let e : k' ≡ near_from (box_among bounds) (around_from (box_among bounds) j n) (i + m - k) k = hk ∙ ap (λ x. near_from (box_among bounds) x (i + m - k) k) hw in
         let least = p.least in
         let most = p.most in
         let le : k ≤ k' = omega (arith, e, least) in
         let ge : k' ≤ i + m = omega (arith, e, most, high) in
         let parts : k' - i ≡ k - i + (k' - k) = omega (arith, low, le) in
-        let same = tally_skip i j n (k - i) (k' - k) (λ c l h. let r = tests-ready c (omega (arith, l, h, low, ge, le)) in row_far (i + c) j n r each-ready (none_of_them bounds (box_in bounds (i + c)) j n (finite_in (i + c) r) (finite_from j n each-ready) (p.none (i + c) (omega (arith, l, low)) (omega (arith, h, low, e, le))))) in
+        let same = tally_skip i j n (k - i) (k' - k) (λ c l h. let r : i + c < length table = omega (arith, l, h, low, ge, le, hi) in row_far (i + c) j n all r hj (none_of_them (box_among bounds) (box_among bounds (i + c)) j n (finite_in (i + c) (all (i + c) r)) (finite_from j n all hj) (p.none (i + c) (omega (arith, l, low)) (omega (arith, h, low, e, le))))) in
         (le, ge, hs ∙ (sym same ∙ ap (λ a. tally_in table i a j n) (sym parts)))
 
     pub tally_turn : (k : ℕ) {s r : Tally} → i ≤ k → s ≡ tally_in table i (k - i) j n → r ≡ folded tallied s (row_in table k j n) → r ≡ tally_in table i (k + 1 - i) j n
@@ -191,10 +198,10 @@ module _ (table bounds : List Float) where
     tally_start = let z : 0 ≡ i - i = omega arith in tally_empty i j n ∙ ap (λ a. tally_in table i a j n) z
 
     -- where the boxes around the ones and around the others share no point, nothing is counted
-    pub tally_far : share_point (box_over bounds i m) (box_over bounds j n) ≡ false → tally_in table i m j n ≡ none_yet
+    pub tally_far : share_point (around_from (box_among bounds) i m) (around_from (box_among bounds) j n) ≡ false → tally_in table i m j n ≡ none_yet
     tally_far h =
         ap (λ a. tally_in table i a j n) (from_none m)
-        ∙ (tally_skip i j n 0 m (λ a l g. let r = tests-ready a (omega (arith, g)) in row_far (i + a) j n r each-ready (λ c k. none_of_either bounds i m j n (finite_from i m tests-ready) (finite_from j n each-ready) h a c (omega (arith, g)) k)) ∙ sym (tally_empty i j n))
+        ∙ (tally_skip i j n 0 m (λ a l g. row_far (i + a) j n all (omega (arith, g, hi)) hj (λ c k. none_of_either (box_among bounds) i m j n (finite_from i m all hi) (finite_from j n all hj) h a c (omega (arith, g)) k)) ∙ sym (tally_empty i j n))
       where
         from_none : (m : ℕ) → m ≡ 0 + m
         from_none m = omega arith

@@ -1,5 +1,5 @@
 -- What is gathered is what there is by the rules: counts from the table are counts from the file, and pair by pair, row by row, all leaks come in table order, all that only touch are counted, and so are all triangle pairs that were tested. Assumes nothing.
-use Prim.Native.Nat.{ℕ, zero, suc, ◌+◌, ◌-◌, ◌*◌, ◌/◌, ◌<◌, ◌≤◌}
+use Prim.Native.Nat.{ℕ, zero, suc, ◌+◌, ◌*◌, ◌/◌, ◌<◌, ◌≤◌}
 use mathlib.Core.Path.{◌≡◌, refl, sym, ap, ap₂, subst, ◌∙◌}
 use mathlib.Core.Bool.{Bool, true, false, cond}
 use mathlib.Core.List.Memᴰ.{head as here}
@@ -13,18 +13,21 @@ use Rattle.floats.specs.Lists.{filter, count, once}
 use Rattle.floats.proofs.Lists.{filter-append, count-append}
 use Rattle.floats.specs.Finite.{finite, nought}
 use Rattle.floats.proofs.Lists.{so, os, all_at}
+use Rattle.shapes.specs.declared.Shape.{Shape}
 use Rattle.shapes.specs.Shapes.{Made, six_of, twelve}
 use Rattle.boxes.specs.declared.Box.{Box}
 use Rattle.boxes.specs.Boxes.{share_point}
-use Rattle.boxed.specs.Tables.{box_in, box_over}
+use Rattle.boxed.specs.Tables.{box_among, around_from}
 use Rattle.centimetres.proofs.Pair.{values, values-finite}
 use Rattle.layout.specs.declared.Entry.{Entry}
-use Rattle.layout.specs.Bytes.{byte_at, u32_at}
+use Rattle.layout.specs.Bytes.{byte_at}
 use Rattle.layout.specs.Parts.{numbers_of, table_place, count_of, entry_from, entry_place, entry_at, triangle_from, triangle_at, triangles_of}
 use Rattle.layout.specs.Layout.{Layout}
 use Rattle.layout.specs.Recordings.{f64_at}
+use Rattle.layout.specs.Verdict.{verdict}
 use Rattle.layout.specs.Inside.{Inside}
 use Rattle.layout.proofs.Inside.{parts_inside}
+use Rattle.layout.proofs.Returned.{has_Layout, is_good}
 use Rattle.listing.specs.declared.Tally.{Tally}
 use Rattle.listing.specs.Turns.{up_to, each, folded}
 use Rattle.sets.specs.Sets.{is_test, is_training, is_retired}
@@ -35,8 +38,9 @@ use Rattle.listing.specs.Leaks.{Leak, tests, trainings, recording_pairs, tally_f
 use Rattle.listing.proofs.Turns.{below, map-append, map-map, map_same_in, each_append, filter-count, sum_from}
 use Rattle.listing.proofs.Editions.{own_not_below, no_leak}
 use Rattle.listing.proofs.Demand.{tested_walked_lem}
-use Rattle.writing.specs.Triples.{leaks_in}
-use Rattle.leaklist.specs.Code.{shape_from, Prepared, Framed, Owned, ReadyAt, ReadyFrom, values_in, row_in, tally_in, size_in, sum_in, own_in, asked_in, area_for, Gathering, Found, found_in, nothing, together, leak_on, found_on, found_for, item_of, row_to, test_of, list_to, formerly_to, found_by_rules}
+use Rattle.leaklist.specs.Code.{shape_from, Prepared, Framed, Owned, AllReady, values_in, row_in, tally_in, size_in, sum_in, own_in, asked_in, area_for, Gathering, Found, nothing, together, leak_on, found_on, found_for, item_of, row_to, test_of, list_to, formerly_to, found_by_rules}
+use Rattle.footprint.specs.declared.Footprint.{Footprint}
+use Rattle.footprint.specs.Contents.{contents}
 use Rattle.leaklist.proofs.Counted.{tally_far}
 
 -- ---- the recording's triangles by number
@@ -79,16 +83,33 @@ finite_from file good k h v m = so (all_at finite (values (numbers_of (triangle_
     fits : 24 * k + 24 ≤ table_place file
     fits = let l : k < table_place file / 24 = (unfold triangles_of in h) in omega (arith, l)
 
-module _ (file : List ℕ) (table bounds own : List Float) (g : Gathering file table bounds own) where
-  ready_at : (k : ℕ) → k < triangles_of file → ReadyAt table bounds k
-  ready_at k h = record {
-    made = subst Made (sym (g.prepared k h)) (Made-from file (24 * k));
-    all_finite = subst (λ s. (v : Float) → Memᴰ v (six_of s) → finite v ≡ true) (sym (g.prepared k h)) (finite_from file g.good k h);
-    framed = g.framed k h;
-  }
+-- what is prepared for a good file is ready
+pub ready : (file : List ℕ) (table : List Shape) (bounds : List Box) → Layout file → length table ≡ triangles_of file → Prepared file (length table) table → Framed table (length table) bounds → AllReady table bounds
+ready file table bounds good size prepared framed k l =
+    let h : k < triangles_of file = omega (arith, l, size) in
+    record {
+      made = subst Made (sym (prepared k l)) (Made-from file (24 * k));
+      all_finite = subst (λ s. (v : Float) → Memᴰ v (six_of s) → finite v ≡ true) (sym (prepared k l)) (finite_from file good k h);
+      framed = framed k l;
+    }
 
-  pub all_ready : (j n : ℕ) → j + n ≤ triangles_of file → ReadyFrom table bounds j n
-  all_ready j n h b k = ready_at (j + b) (omega (arith, h, k))
+-- and all of it
+pub gathering : (file : List ℕ) (table : List Shape) (bounds own : List Box) → Layout file → length table ≡ triangles_of file → length own ≡ count_of file → Prepared file (length table) table → Framed table (length table) bounds → Owned file bounds (length own) own → Gathering file table bounds own
+gathering file table bounds own good size recordings prepared framed owned = record {
+  good = is_good file good;
+  size = size;
+  recordings = recordings;
+  prepared = subst (λ n. Prepared file n table) size prepared;
+  framed = subst (λ n. Framed table n bounds) size framed;
+  owned = subst (λ n. Owned file bounds n own) recordings owned;
+}
+
+module _ (file : List ℕ) (table : List Shape) (bounds own : List Box) (g : Gathering file table bounds own) where
+  pub good-Layout : Layout file
+  good-Layout = has_Layout file g.good
+
+  all_ready : AllReady table bounds
+  all_ready = let s = g.size in ready file table bounds good-Layout s (λ c l. g.prepared c (omega (arith, l, s))) (λ c l. g.framed c (omega (arith, l, s)))
 
   values_are : (p q : ℕ) → p < triangles_of file → q < triangles_of file → values_in table p q ≡ coordinates_at file (24 * p) ++ coordinates_at file (24 * q)
   values_are p q h k = ap₂ twelve (g.prepared p h) (g.prepared q k) ∙ twelve_from file (24 * p) (24 * q)
@@ -103,7 +124,7 @@ unfolding each
 map_each g f [] = refl
 map_each g f (x ∷ xs) = map-append g (f x) (each f xs) ∙ ap (λ r. map g (f x) ++ r) (map_each g f xs)
 
-module _ (file : List ℕ) (table bounds own : List Float) (g : Gathering file table bounds own) (i j : ℕ) (hi : i < count_of file) (hj : j < count_of file) where
+module _ (file : List ℕ) (table : List Shape) (bounds own : List Box) (g : Gathering file table bounds own) (i j : ℕ) (hi : i < count_of file) (hj : j < count_of file) where
   abbrev test : Entry
   test = entry_at file i
 
@@ -113,10 +134,10 @@ module _ (file : List ℕ) (table bounds own : List Float) (g : Gathering file t
   pair_is : (a b : ℕ) → a < test.count → b < train.count → values_in table (test.first / 24 + a) (train.first / 24 + b) ≡ values_at file test train a b
   unfolding values_at
   pair_is a b h k =
-      let p = in_table file g.good i hi in
-      let q = in_table file g.good j hj in
+      let p = in_table file (good-Layout file table bounds own g) i hi in
+      let q = in_table file (good-Layout file table bounds own g) j hj in
       values_are file table bounds own g (test.first / 24 + a) (train.first / 24 + b) (omega (arith, p, h)) (omega (arith, q, k))
-      ∙ ap₂ (λ x y. coordinates_at file x ++ coordinates_at file y) (place_is file g.good i hi a) (place_is file g.good j hj b)
+      ∙ ap₂ (λ x y. coordinates_at file x ++ coordinates_at file y) (place_is file (good-Layout file table bounds own g) i hi a) (place_is file (good-Layout file table bounds own g) j hj b)
 
   abbrev values_of : ℕ × ℕ → List Float
   values_of p = values_at file test train p.0 p.1
@@ -136,12 +157,13 @@ module _ (file : List ℕ) (table bounds own : List Float) (g : Gathering file t
       ∙ sym (map_each values_of (λ a. map (λ b. (a, b)) (up_to train.count)) (up_to test.count)))
 
   -- where the own boxes of two recordings share no point, nothing is counted
-  pub far_none : share_point (box_in own i) (box_in own j) ≡ false → tally_for file (i, j) ≡ none_yet
+  pub far_none : share_point (box_among own i) (box_among own j) ≡ false → tally_for file (i, j) ≡ none_yet
   far_none h =
-      let p = in_table file g.good i hi in
-      let q = in_table file g.good j hj in
+      let p = in_table file (good-Layout file table bounds own g) i hi in
+      let s = g.size in
+      let q = in_table file (good-Layout file table bounds own g) j hj in
       sym count_is
-      ∙ tally_far table bounds (test.first / 24) test.count (train.first / 24) train.count (all_ready file table bounds own g (test.first / 24) test.count p) (all_ready file table bounds own g (train.first / 24) train.count q)
+      ∙ tally_far table bounds (test.first / 24) test.count (train.first / 24) train.count (all_ready file table bounds own g) (omega (arith, p, s)) (omega (arith, q, s))
       (sym (ap₂ share_point (g.owned i hi) (g.owned j hj)) ∙ h)
 
 -- ---- the own area of a recording, from the table
@@ -149,19 +171,19 @@ cross_is : (file : List ℕ) (at : ℕ) → (shape_from file at).cross ≡ e_at 
 unfolding shape_from e_at
 cross_is file at = refl
 
-module _ (file : List ℕ) (table bounds own : List Float) (g : Gathering file table bounds own) (i : ℕ) (hi : i < count_of file) where
+module _ (file : List ℕ) (table : List Shape) (bounds own : List Box) (g : Gathering file table bounds own) (i : ℕ) (hi : i < count_of file) where
   size_is : (a : ℕ) → a < (entry_at file i).count → size_in table ((entry_at file i).first / 24 + a) ≡ absolute (e_at file (place_in (entry_at file i) a))
   size_is a h =
-      let p = in_table file g.good i hi in
-      ap absolute (ap (λ s. s.cross) (g.prepared ((entry_at file i).first / 24 + a) (omega (arith, p, h))) ∙ (cross_is file (24 * ((entry_at file i).first / 24 + a)) ∙ ap (e_at file) (place_is file g.good i hi a)))
+      let p = in_table file (good-Layout file table bounds own g) i hi in
+      ap absolute (ap (λ s. s.cross) (g.prepared ((entry_at file i).first / 24 + a) (omega (arith, p, h))) ∙ (cross_is file (24 * ((entry_at file i).first / 24 + a)) ∙ ap (e_at file) (place_is file (good-Layout file table bounds own g) i hi a)))
 
   area_is : own_in table ((entry_at file i).first / 24) (entry_at file i).count ≡ own_for file i
   unfolding sum_in own_for own_area sizes_of
   area_is = ap (λ ss. mul binary64 half (folded (add binary64) nought ss)) (map_same_in (λ a. size_in table ((entry_at file i).first / 24 + a)) (λ a. absolute (e_at file (place_in (entry_at file i) a))) (up_to (entry_at file i).count) (λ a m. size_is a (below (entry_at file i).count m)))
 
   -- as the code comes to it: the entry as it was read
-  pub area_fits : {e : Entry} → e ≡ entry_at file i → (e.first / 24 + e.count ≤ 2730) × (length table ≡ 30030)
-  area_fits p = let a = in_table file g.good i hi in let few = few_triangles file g.good in rw p (omega (arith, a, few), g.size)
+  pub area_fits : {e : Entry} → e ≡ entry_at file i → e.first / 24 + e.count ≤ length table
+  area_fits p = let a = in_table file (good-Layout file table bounds own g) i hi in let s = g.size in rw p (omega (arith, a, s))
 
   pub area_by : {e : Entry} {r : Float} → e ≡ entry_at file i → r ≡ asked_in table e → r ≡ area_for file i
   unfolding area_for
@@ -176,14 +198,14 @@ asked_same last own t = go (is_second last)
     go false = refl
 
 -- ---- as the code comes to it: two entries as they were read
-module _ (file : List ℕ) (table bounds own : List Float) (g : Gathering file table bounds own) (i j : ℕ) (hi : i < count_of file) (hj : j < count_of file) where
-  pub tally_fits : {e f : Entry} {whole : Box} → e ≡ entry_at file i → f ≡ entry_at file j → whole ≡ box_in own j →
-      ReadyFrom table bounds (e.first / 24) e.count × ReadyFrom table bounds (f.first / 24) f.count × (e.first / 24 + e.count ≤ 2730) × (f.first / 24 + f.count ≤ 2730) × (length table ≡ 30030) × (whole ≡ box_over bounds (f.first / 24) f.count)
+module _ (file : List ℕ) (table : List Shape) (bounds own : List Box) (g : Gathering file table bounds own) (i j : ℕ) (hi : i < count_of file) (hj : j < count_of file) where
+  pub tally_fits : {e f : Entry} {whole : Box} → e ≡ entry_at file i → f ≡ entry_at file j → whole ≡ box_among own j →
+      (e.first / 24 + e.count ≤ length table) × (f.first / 24 + f.count ≤ length table) × (whole ≡ around_from (box_among bounds) (f.first / 24) f.count)
   tally_fits p q w =
-      let a = in_table file g.good i hi in
-      let b = in_table file g.good j hj in
-      let few = few_triangles file g.good in
-      rw (p, q) (all_ready file table bounds own g ((entry_at file i).first / 24) (entry_at file i).count a, all_ready file table bounds own g ((entry_at file j).first / 24) (entry_at file j).count b, omega (arith, a, few), omega (arith, b, few), g.size, w ∙ g.owned j hj)
+      let a = in_table file (good-Layout file table bounds own g) i hi in
+      let b = in_table file (good-Layout file table bounds own g) j hj in
+      let s = g.size in
+      rw (p, q) (omega (arith, a, s), omega (arith, b, s), w ∙ g.owned j hj)
 
   pub count_by : {e f : Entry} {t : Tally} → e ≡ entry_at file i → f ≡ entry_at file j → t ≡ tally_in table (e.first / 24) e.count (f.first / 24) f.count → t ≡ tally_for file (i, j)
   count_by p q h = h ∙ (ap₂ (λ e f. tally_in table (e.first / 24) e.count (f.first / 24) f.count) p q ∙ count_is file table bounds own g i j hi hj)
@@ -249,8 +271,8 @@ module _ (file : List ℕ) (i j : ℕ) where
       go false = refl
 
 -- a leak added, and one more that only touches, if they do, and the pairs that were tested
-pub pair_added : (before : Found) (e : Entry) (own : Float) (train : ℕ) (t : Tally) {ls : List Leak} {more n k : ℕ} → ls ≡ before.leaks ++ leak_on e own train t → more ≡ once (only_touch t) → n ≡ before.touching + more → k ≡ before.tested + t.tested → found_by ls n k ≡ together before (found_on e own train t)
-pair_added before e own train t p q r u = found_same p (r ∙ ap (λ k. before.touching + k) q) u
+pub pair_added : (before : Found) (e : Entry) (own : Float) (id : ℕ) (t : Tally) {ls : List Leak} {more n k : ℕ} → ls ≡ before.leaks ++ leak_on e own id t → more ≡ once (only_touch t) → n ≡ before.touching + more → k ≡ before.tested + t.tested → found_by ls n k ≡ together before (found_on e own id t)
+pair_added before e own id t p q r u = found_same p (r ∙ ap (λ k. before.touching + k) q) u
 
 -- what is gathered in several steps
 pub with_nothing : (a : Found) {item : Found} → nothing ≡ item → a ≡ together a item
@@ -271,9 +293,9 @@ pub row_if : (file : List ℕ) (i : ℕ) {e : Entry} {b x : Bool} → e ≡ entr
 unfolding test_of
 row_if file i h hb z = ap (λ y. cond y (row_to file i (count_of file)) nothing) (ap (λ e. is_test e.set) (sym h) ∙ (sym hb ∙ z))
 
-pub list_none : (file found : List ℕ) → found_in found (record { leaks = 0; touching = 0; tested = 0 }) ≡ list_to file 0
-unfolding leaks_in list_to
-list_none file found = refl
+pub list_none : (file : List ℕ) → nothing ≡ list_to file 0
+unfolding list_to
+list_none file = refl
 
 pub list_turn : (file : List ℕ) (i : ℕ) {b c : Found} → b ≡ list_to file i → c ≡ together b (test_of file i) → c ≡ list_to file (i + 1)
 list_turn file i p q = q ∙ (ap (λ x. together x (test_of file i)) p ∙ (last ∙ ap (list_to file) (sym (add-one i))))
@@ -388,18 +410,31 @@ pub formerly_all : (file : List ℕ) → formerly_to file (count_of file) ≡ fo
 unfolding formerly_to formerly_held_back formerly
 formerly_all file = sym (filter-count (λ k. is_retired (entry_at file k).set) (up_to (count_of file)))
 
--- ---- the trailer's numbers as they are read
-pub table_read : (file : List ℕ) {at : ℕ} → at ≡ u32_at file (length file - 12) → at ≡ table_place file
-unfolding table_place
-table_read file h = h
-
-pub count_read : (file : List ℕ) {n : ℕ} → n ≡ u32_at file (length file - 8) → n ≡ count_of file
-unfolding count_of
-count_read file h = h
-
-pub triangles_read : (file : List ℕ) {at : ℕ} → at ≡ table_place file → at / 24 ≡ triangles_of file
+-- ---- a good file's bytes, where its table begins and how many recordings it has, as they are read
+pub few_in : (f : Footprint) {at : ℕ} → at ≡ table_place (contents f) → at / 24 ≤ 2730
 unfolding triangles_of
-triangles_read file h = ap (λ t. t / 24) h
+few_in f p = let few : table_place (contents f) / 24 ≤ 2730 = few_triangles (contents f) (has_Layout (contents f) f.good) in omega (arith, p, few)
 
-pub ready : (file : List ℕ) (table bounds own : List Float) {n m : ℕ} → Layout file → length table ≡ 30030 → n ≡ triangles_of file → m ≡ count_of file → Prepared file (triangles_of file) table → Framed table n bounds → Owned file bounds m own → Gathering file table bounds own
-ready file table bounds own good size e f p q r = record { good = good; size = size; prepared = p; framed = subst (λ k. Framed table k bounds) e q; owned = subst (λ k. Owned file bounds k own) f r }
+pub record Opened (bytes : List ℕ) (at count : ℕ) : Type 0 where
+  pub good : Layout bytes
+  pub place : at ≡ table_place bytes
+  pub in_file : at ≤ 65536
+  pub all : at / 24 ≡ triangles_of bytes
+  pub few : at / 24 ≤ 2730
+  pub recordings : count ≡ count_of bytes
+
+pub opened : (f : Footprint) (bytes : List ℕ) {at count : ℕ} → bytes ≡ contents f → at ≡ table_place (contents f) → count ≡ count_of (contents f) → Opened bytes at count
+unfolding triangles_of
+opened f bytes {at} e p n =
+    let good : Layout bytes = has_Layout bytes (ap (λ b. (verdict b).number) e ∙ f.good) in
+    let place : at ≡ table_place bytes = p ∙ ap table_place (sym e) in
+    let all : at / 24 ≡ triangles_of bytes = ap (λ t. t / 24) place in
+    let few = few_triangles bytes good in
+    record {
+      good = good;
+      place = place;
+      in_file = omega (arith, good.filled, good.at_most65536, place);
+      all = all;
+      few = omega (arith, all, few);
+      recordings = n ∙ ap count_of (sym e);
+    }

@@ -1,10 +1,10 @@
 -- The list of what was gathered, in the room or refused, is the list of the rules, and what is told of a file is that list or the line of its refusal. Assumes nothing.
 use Prim.Native.Nat.{ℕ, ◌≤◌}
 use mathlib.Core.Path.{◌≡◌, refl, sym, ap, ap₂, subst, ◌∙◌}
-use mathlib.Core.List.{List, []}
+use mathlib.Core.List.{List, [], map}
 use native.Mathlib.Omega.{arith}
 use borrow.Author.Tests.{eq-eqb, ne_eqb}
-use lib.ListN.{length}
+use lib.ListN.{length, take}
 use Rattle.text.specs.Room.{laid, Put}
 use Rattle.text.proofs.Room.{put_front}
 use Rattle.layout.specs.Verdict.{verdict, number_at}
@@ -18,15 +18,15 @@ use Rattle.listing.specs.Words.{list_text, refused_line}
 use Rattle.listing.specs.Listing.{no_list, list_from, list_of}
 use Rattle.listing.specs.Promise.{ListPromise}
 use Rattle.listing.proofs.Returned.{by_file_lem, past_file, by_list_lem, returned_one}
-use Rattle.writing.specs.Triples.{leaks_in, held_in, beside_in, WrittenAs}
-use Rattle.writing.proofs.Written.{held_all}
-use Rattle.leaklist.specs.Code.{found_in, found_by_rules, told_of}
+use Rattle.writing.specs.Triples.{leak_of, held, beside_in, WrittenAs}
+use Rattle.leaklist.specs.Code.{leaks_of, found_in, found_by_rules, told_of}
 
 -- ---- the list of a good file
-pub keeps : (file room found : List ℕ) (c : Counts) (formerly : ℕ) {r : Listed} {after : List ℕ} → Layout file → found_in found c ≡ found_by_rules file → WrittenAs (leaks_in found (held_in found c.leaks)) (beside_in c formerly) room r after → formerly ≡ formerly_held_back file → c.leaks ≤ 4096 → length found ≡ 12288 → ListPromise file room r after
+pub keeps : (file room : List ℕ) (found : List (List ℕ)) (c : Counts) (formerly : ℕ) {r : Listed} {after : List ℕ} → Layout file → found_in found c ≡ found_by_rules file → WrittenAs (map leak_of (take (held found c.leaks) found)) (beside_in c formerly) room r after → formerly ≡ formerly_held_back file → c.leaks ≤ 4096 → length found ≡ 4096 → ListPromise file room r after
 keeps file room found c formerly {r} {after} good h w old most size =
     let s = past_file file room (is_good file good) in
-    let ls = ap (leaks_in found) (held_all found c.leaks most (omega (arith, most, size))) ∙ ap (λ f. f.leaks) h in
+    let all : held found c.leaks ≡ c.leaks = omega (arith, most, size) in
+    let ls = ap (leaks_of found) all ∙ ap (λ f. f.leaks) h in
     let t = beside_is (ap (λ f. f.touching) h) (ap (λ f. f.tested) h) in
     record {
       result_is = w.result_is ∙ (ap₂ (λ l n. (list_from l n room).result) ls t ∙ ap (λ v. v.result) (sym s));

@@ -1,6 +1,6 @@
 -- The steps of the writer: prepared triangles and boxes, counts and own areas from them, leaks recording by recording. That they come to the list of the rules is the writer's promise. Definitions only.
 use Prim.Native.Nat.{ℕ, zero, suc, ◌+◌, ◌*◌, ◌/◌, ◌<◌}
-use Rattle.std.specs.Prelude.{◌≡◌, true, ◌||◌, eqb, length, get_or, Float}
+use Rattle.std.specs.Prelude.{◌≡◌, true, ◌||◌, eqb, length, get_or, take, Float}
 use Rattle.std.proofs.Math.Bool.{cond}
 use mathlib.Core.List.{List, [], ◌∷◌, ◌++◌, map, Memᴰ}
 use Rattle.std.specs.Float.{nan, binary64}
@@ -14,12 +14,11 @@ use Rattle.shapes.specs.declared.Shape.{Shape}
 use Rattle.shapes.specs.Shapes.{shape_of, Made, six_of, twelve}
 use Rattle.boxes.specs.declared.Box.{Box}
 use Rattle.boxes.specs.Boxes.{box_of}
-use Rattle.boxed.specs.Tables.{box_in, box_over}
+use Rattle.boxed.specs.Tables.{box_among, around_from}
 use Rattle.layout.specs.declared.Entry.{Entry}
 use Rattle.layout.specs.Parts.{count_of, entry_at, triangles_of}
-use Rattle.layout.specs.Layout.{Layout}
 use Rattle.layout.specs.Recordings.{f64_at}
-use Rattle.layout.specs.Verdict.{number_at}
+use Rattle.layout.specs.Verdict.{number_at, verdict}
 use Rattle.floats.specs.Lists.{once, count}
 use Rattle.sets.specs.Sets.{is_test, is_training, is_retired}
 use Rattle.sets.specs.Editions.{is_second}
@@ -30,87 +29,75 @@ use Rattle.listing.specs.Pairs.{tallied, none_yet, absolute, leak, only_touch}
 use Rattle.listing.specs.Leaks.{Leak, tally_for, own_for, leaks, touching, tested}
 use Rattle.listing.specs.Words.{list_text, refused_line}
 use Rattle.listing.specs.Listing.{list_of}
-use Rattle.writing.specs.Triples.{leaks_in}
+use Rattle.writing.specs.Triples.{leak_of}
 
 -- ---- a prepared triangle in the table, and the same from the file
-abbrev pub eleven_of : Shape → List Float
-eleven_of s = s.x0 ∷ s.y0 ∷ s.x1 ∷ s.y1 ∷ s.x2 ∷ s.y2 ∷ s.ax ∷ s.ay ∷ s.bx ∷ s.by ∷ s.cross ∷ []
+abbrev pub nowhere : Position
+nowhere = record { x = nan; y = nan }
 
--- two values, from a place on, as a position or a side
-abbrev pub position_from : List Float → ℕ → Position
-position_from table at = record { x = get_or table at nan; y = get_or table (at + 1) nan }
+-- beyond the end of the table, where nothing is read
+abbrev pub no_shape : Shape
+no_shape = record { v0 = nowhere; v1 = nowhere; v2 = nowhere; a = nowhere; b = nowhere; cross = nan }
 
-abbrev pub shape_in : List Float → ℕ → Shape
-shape_in table k = record {
-  x0 = get_or table (11 * k) nan;
-  y0 = get_or table (11 * k + 1) nan;
-  x1 = get_or table (11 * k + 2) nan;
-  y1 = get_or table (11 * k + 3) nan;
-  x2 = get_or table (11 * k + 4) nan;
-  y2 = get_or table (11 * k + 5) nan;
-  ax = get_or table (11 * k + 6) nan;
-  ay = get_or table (11 * k + 7) nan;
-  bx = get_or table (11 * k + 8) nan;
-  by = get_or table (11 * k + 9) nan;
-  cross = get_or table (11 * k + 10) nan;
-}
+abbrev pub shape_in : List Shape → ℕ → Shape
+shape_in table k = get_or table k no_shape
 
 unfoldable pub shape_from : List ℕ → ℕ → Shape
 shape_from file at = shape_of (f64_at file at) (f64_at file (at + 4)) (f64_at file (at + 8)) (f64_at file (at + 12)) (f64_at file (at + 16)) (f64_at file (at + 20))
 
 -- the first n triangles of the file stand in the table
-abbrev pub Prepared : List ℕ → ℕ → List Float → Type 0
+abbrev pub Prepared : List ℕ → ℕ → List Shape → Type 0
 Prepared file n table = (k : ℕ) → k < n → shape_in table k ≡ shape_from file (24 * k)
 
--- ---- boxes: of the triangles of the table, in a table of their own, and of the recordings, in a third
+-- ---- boxes: of the triangles of the table, in an array of their own, and of the recordings, in a third
 abbrev pub box_of_shape : Shape → Box
-box_of_shape s = box_of s.x0 s.y0 s.x1 s.y1 s.x2 s.y2
+box_of_shape s = box_of s.v0.x s.v0.y s.v1.x s.v1.y s.v2.x s.v2.y
 
 -- the boxes of the first n triangles
-abbrev pub Framed : List Float → ℕ → List Float → Type 0
-Framed table n bounds = (k : ℕ) → k < n → box_in bounds k ≡ box_of_shape (shape_in table k)
+abbrev pub Framed : List Shape → ℕ → List Box → Type 0
+Framed table n bounds = (k : ℕ) → k < n → box_among bounds k ≡ box_of_shape (shape_in table k)
 
 -- the own boxes of the first n recordings, each around the boxes of its triangles
-abbrev pub Owned : List ℕ → List Float → ℕ → List Float → Type 0
-Owned file bounds n own = (k : ℕ) → k < n → box_in own k ≡ box_over bounds ((entry_at file k).first / 24) (entry_at file k).count
+abbrev pub Owned : List ℕ → List Box → ℕ → List Box → Type 0
+Owned file bounds n own = (k : ℕ) → k < n → box_among own k ≡ around_from (box_among bounds) ((entry_at file k).first / 24) (entry_at file k).count
 
 -- triangle k is as it is prepared, has finite coordinates, and its box is in its place
-pub record ReadyAt (table bounds : List Float) (k : ℕ) : Type 0 where
+pub record ReadyAt (table : List Shape) (bounds : List Box) (k : ℕ) : Type 0 where
   pub made : Made (shape_in table k)
   pub all_finite : (v : Float) → Memᴰ v (six_of (shape_in table k)) → finite v ≡ true
-  pub framed : box_in bounds k ≡ box_of_shape (shape_in table k)
+  pub framed : box_among bounds k ≡ box_of_shape (shape_in table k)
 
--- n triangles from j on are
-abbrev pub ReadyFrom : List Float → List Float → ℕ → ℕ → Type 0
-ReadyFrom table bounds j n = (b : ℕ) → b < n → ReadyAt table bounds (j + b)
+-- every triangle of the table is
+abbrev pub AllReady : List Shape → List Box → Type 0
+AllReady table bounds = (k : ℕ) → k < length table → ReadyAt table bounds k
 
 -- ---- counts from the table: m test triangles from i on, n training triangles from j on
-abbrev pub values_in : List Float → ℕ → ℕ → List Float
+abbrev pub values_in : List Shape → ℕ → ℕ → List Float
 values_in table i j = twelve (shape_in table i) (shape_in table j)
 
-unfoldable pub row_in : List Float → ℕ → ℕ → ℕ → List (List Float)
+unfoldable pub row_in : List Shape → ℕ → ℕ → ℕ → List (List Float)
 row_in table i j n = map (λ b. values_in table i (j + b)) (up_to n)
 
 -- one more pair that was given to the triangle rules, by what they decide
 abbrev pub tallied_near : Tally → Decision → Tally
 tallied_near t d = record { overlapping = t.overlapping + once (overlaps d); touching = t.touching + once (touches d); tested = t.tested + 1; refused = t.refused || is_refused d; area = with_area t.area d }
 
-unfoldable pub tally_in : List Float → ℕ → ℕ → ℕ → ℕ → Tally
+unfoldable pub tally_in : List Shape → ℕ → ℕ → ℕ → ℕ → Tally
 unfolding row_in
 tally_in table i m j n = folded tallied none_yet (each (λ a. row_in table (i + a) j n) (up_to m))
 
 -- ---- the own area of n triangles from i on, from their crosses in the table
-abbrev pub size_in : List Float → ℕ → Float
-size_in table k = absolute (get_or table (11 * k + 10) nan)
+abbrev pub size_in : List Shape → ℕ → Float
+size_in table k = absolute (shape_in table k).cross
 
-unfoldable pub sum_in : List Float → ℕ → ℕ → Float
+unfoldable pub sum_in : List Shape → ℕ → ℕ → Float
 sum_in table i n = folded (add binary64) nought (map (λ a. size_in table (i + a)) (up_to n))
 
-abbrev pub own_in : List Float → ℕ → ℕ → Float
+abbrev pub own_in : List Shape → ℕ → ℕ → Float
 own_in table i n = mul binary64 half (sum_in table i n)
 
 -- of a recording, where its edition asks for it; else 0.0, which nothing asks for
-abbrev pub asked_in : List Float → Entry → Float
+abbrev pub asked_in : List Shape → Entry → Float
 asked_in table e = cond (is_second e.last) (own_in table (e.first / 24) e.count) nought
 
 -- the same of recording i by the rules
@@ -118,13 +105,18 @@ unfoldable pub area_for : List ℕ → ℕ → Float
 unfolding own_for
 area_for file i = cond (is_second (entry_at file i).last) (own_for file i) nought
 
--- ---- what the gathering of leaks goes by: a good file, all of its triangles in the table, and all boxes in theirs
-pub record Gathering (file : List ℕ) (table bounds own : List Float) : Type 0 where
-  pub good : Layout file
-  pub size : length table ≡ 30030
+-- ---- what the gathering of leaks goes by: a good file, all of its triangles prepared, the box of each, and the own box of each recording
+pub record Gathering (file : List ℕ) (table : List Shape) (bounds own : List Box) : Type 0 where
+  pub good : (verdict file).number ≡ 0
+  pub size : length table ≡ triangles_of file
+  pub recordings : length own ≡ count_of file
   pub prepared : Prepared file (triangles_of file) table
   pub framed : Framed table (triangles_of file) bounds
   pub owned : Owned file bounds (count_of file) own
+
+-- ---- the first k triples as leaks
+abbrev pub leaks_of : List (List ℕ) → ℕ → List Leak
+leaks_of triples k = map leak_of (take k triples)
 
 -- ---- what is found: leaks, how many pairs of recordings only touch, and how many triangle pairs were given to the triangle rules
 pub record Found : Type 0 where
@@ -133,8 +125,8 @@ pub record Found : Type 0 where
   pub tested : ℕ
 
 -- as the code holds it: so many triples, and two counts
-abbrev pub found_in : List ℕ → Counts → Found
-found_in found c = record { leaks = leaks_in found c.leaks; touching = c.touching; tested = c.tested }
+abbrev pub found_in : List (List ℕ) → Counts → Found
+found_in triples c = record { leaks = leaks_of triples c.leaks; touching = c.touching; tested = c.tested }
 
 abbrev pub nothing : Found
 nothing = record { leaks = []; touching = 0; tested = 0 }
@@ -178,6 +170,10 @@ module _ (file : List ℕ) where
   unfolding test_of
   list_to zero = nothing
   list_to (suc n) = together (list_to n) (test_of n)
+
+  -- recording i, with its entry, and its own area where that is asked for
+  abbrev pub IsTestIn : ℕ → Entry → Float → Type 0
+  IsTestIn i e area = (i < count_of file) × (e ≡ entry_at file i) × (area ≡ area_for file i)
 
   -- how many of the first n recordings were formerly held back
   unfoldable pub formerly_to : ℕ → ℕ

@@ -1,188 +1,148 @@
 // What is found of a file's recordings, in table order: each leak as three numbers, two ids and N; how many pairs of recordings only touch; how many triangle pairs were given to the triangle rules; and how many recordings were formerly held back.
 ghost use Rattle.std.specs.Prelude.{◌≡◌, ◌++◌, ◌+◌, ◌*◌, ◌≤◌, ◌<◌, length};
+ghost use Rattle.std.proofs.Props.{props};
 ghost use Rattle.layout.specs.Parts.{count_of, entry_at, table_place};
-ghost use Rattle.boxed.specs.Tables.{box_in};
 ghost use Rattle.listing.specs.Leaks.{formerly_held_back};
-ghost use Rattle.writing.specs.Triples.{leaks_in};
-ghost use Rattle.leaklist.specs.Code.{Gathering, found_in, together, area_for, leak_on, item_of, row_to, test_of, list_to};
+ghost use Rattle.leaklist.specs.Code.{Gathering, IsTestIn, found_in, nothing, together, leaks_of, leak_on, item_of, row_to, test_of, list_to};
 
 use crate::areas::asked_area;
-use crate::tallies::tally;
+use crate::tallies::Triangles;
 
-// One more leak, if the test recording e, of this own area, and the training recording leak; how many there are then.
-fn add(found: &mut [u32], k: u32, e: layout::Entry, area: f64, train: u32, t: listing::Tally) -> u32
-    requires { (k < 4096) × (length found.old ≡ 12288) }
-    ensures { (leaks_in found.new result ≡ leaks_in found.old k ++ leak_on e area train t) × (result ≤ k + 1) }
-{
-    if counting::leak(e.last, area, t) {
-        let at = 3 * (k as usize);
-        found[at] = e.id;
-        found[at + 1] = train;
-        found[at + 2] = t.overlapping;
-        return k + 1;
-    }
-    k
+// What is found so far: leaks as triples of numbers, with room for 64 times 64, more than any file has; and what is counted, the leaks among it.
+// Stays a triple for a leak: docs/PROMISES.md has `writing::write` of numbers, and each three of those are seen as a triple, not as a struct, without a copy.
+// Stays beside their number in `counts`: that is what the list is answered with, and the length of an `ArrayVec` would say it a second time.
+#[derive(Drop)]
+pub(crate) struct Found {
+    pub(crate) triples: [[u32; 3]; 4096],
+    pub(crate) counts: listing::Counts,
 }
 
-// The test recording i, of which `area` is the own area where its edition asks for it, with recording j, whose own box is `whole`.
-fn add_near(
-    file: &[u8],
-    table: &[f64],
-    bounds: &[f64],
-    own: &[f64],
-    found: &mut [u32],
-    c: listing::Counts,
-    i: usize,
-    e: layout::Entry,
+impl Found {
+    // No leak, and nothing counted.
+    pub(crate) fn nothing() -> Found
+        ensures { (found_in result.triples result.counts ≡ nothing) × (result.counts.leaks ≡ 0) × (result.counts.touching ≡ 0) }
+    {
+        let counts = listing::Counts::default();
+        Found {
+            triples: [[0; 3]; 4096],
+            counts,
+        }
+    }
+
+    // One more leak, if the test recording and the training recording, of which this is kept, leak.
+    fn add(&mut self, test: Test, train: u32, t: listing::Tally)
+        requires { self.old.counts.leaks < 4096 }
+        ensures { (leaks_of self.new.triples self.new.counts.leaks ≡ leaks_of self.old.triples self.old.counts.leaks ++ leak_on test.entry test.area train t) × (self.new.counts.leaks ≤ self.old.counts.leaks + 1) × (self.new.counts.touching ≡ self.old.counts.touching) × (self.new.counts.tested ≡ self.old.counts.tested) }
+    {
+        if counting::leak(test.entry.last, test.area, t) {
+            let k = self.counts.leaks;
+            self.triples[k as usize] = [test.entry.id, train, t.overlapping];
+            self.counts.leaks += 1;
+        }
+    }
+}
+
+// A test recording: its number, its entry, and its own area where its edition asks for it.
+#[derive(Clone, Copy)]
+struct Test {
+    number: usize,
+    entry: layout::Entry,
     area: f64,
-    at: usize,
-    j: usize,
-    whole: boxes::Box,
-) -> listing::Counts
-    requires { Gathering file.now table.now bounds.now own.now × (i < count_of file.now) × (e ≡ entry_at file.now i) × (at ≡ table_place file.now) × (j < count_of file.now) × (c.leaks < 4096) × (c.touching < 4096) × (c.tested + (item_of file.now i j).tested ≤ 4294967295) × (length found.old ≡ 12288) × (whole ≡ box_in own.now j) × (area ≡ area_for file.now i) }
-    ensures { (found_in found.new result ≡ together (found_in found.old c) (item_of file.now i j)) × (result.leaks ≤ c.leaks + 1) × (result.touching ≤ c.touching + 1) }
-{
-    let f = reading::entry_at(file, at + 12 * j);
-    if sets::is_training(f.set) {
-        let t = tally(
-            table,
-            bounds,
-            whole,
-            (e.first / 24) as usize,
-            e.count as usize,
-            (f.first / 24) as usize,
-            f.count as usize,
-        );
-        let more = counting::one_if(counting::only_touch(t));
-        let touching = c.touching + more;
-        let tested = c.tested + t.tested;
-        let leaks = add(found, c.leaks, e, area, f.id, t);
-        return listing::Counts {
-            leaks,
-            touching,
-            tested,
-        };
-    }
-    c
 }
 
-// The same of any recording j: where their own boxes share no point, none of their triangles' do, and nothing is found.
-fn add_pair(
-    file: &[u8],
-    table: &[f64],
-    bounds: &[f64],
-    own: &[f64],
-    found: &mut [u32],
-    c: listing::Counts,
-    i: usize,
-    e: layout::Entry,
-    area: f64,
-    at: usize,
-    j: usize,
-) -> listing::Counts
-    requires { Gathering file.now table.now bounds.now own.now × (i < count_of file.now) × (e ≡ entry_at file.now i) × (at ≡ table_place file.now) × (j < count_of file.now) × (c.leaks < 4096) × (c.touching < 4096) × (c.tested + (item_of file.now i j).tested ≤ 4294967295) × (length found.old ≡ 12288) × (area ≡ area_for file.now i) }
-    ensures { (found_in found.new result ≡ together (found_in found.old c) (item_of file.now i j)) × (result.leaks ≤ c.leaks + 1) × (result.touching ≤ c.touching + 1) }
-{
-    let whole = boxed::box_at(own, j);
-    if boxes::share_point(boxed::box_at(own, i), whole) {
-        return add_near(file, table, bounds, own, found, c, i, e, area, at, j, whole);
-    }
-    c
+// A good file: its bytes, where its table begins, its triangles, and the own boxes of its recordings.
+// Stays bytes and a place, no Footprint: its `entry(k)` is an Option and reads the trailer anew, and `formerly` reads one byte of an entry (docs/DECISIONS.md 169).
+#[derive(Clone, Copy)]
+pub(crate) struct Night<'a, 't> {
+    pub(crate) file: &'a [u8],
+    pub(crate) at: usize,
+    pub(crate) triangles: Triangles<'t>,
+    pub(crate) own: &'a [boxes::Box],
+    pub(crate) ghost place: { at ≡ table_place file.now },
+    pub(crate) ghost in_file: { at ≤ 65536 },
+    pub(crate) ghost few: { length own.now ≤ 64 },
+    pub(crate) ghost gathered: { Gathering file.now triangles.shapes.now triangles.bounds.now own.now } by { Prim.hlevel props },
 }
 
-// The test recording i with each of `count` recordings.
-fn add_row(
-    file: &[u8],
-    table: &[f64],
-    bounds: &[f64],
-    own: &[f64],
-    found: &mut [u32],
-    c: listing::Counts,
-    i: usize,
-    e: layout::Entry,
-    area: f64,
-    at: usize,
-    count: usize,
-) -> listing::Counts
-    requires { Gathering file.now table.now bounds.now own.now × (i < count_of file.now) × (e ≡ entry_at file.now i) × (at ≡ table_place file.now) × (count ≡ count_of file.now) × (c.leaks + 64 ≤ 4096) × (c.touching + 64 ≤ 4096) × (c.tested + (row_to file.now i (count_of file.now)).tested ≤ 4294967295) × (length found.old ≡ 12288) × (area ≡ area_for file.now i) }
-    ensures { (found_in found.new result ≡ together (found_in found.old c) (row_to file.now i (count_of file.now))) × (result.leaks ≤ c.leaks + 64) × (result.touching ≤ c.touching + 64) }
-{
-    let mut to = c;
-    let mut j: usize = 0;
-    while j < count {
-        to = add_pair(file, table, bounds, own, found, to, i, e, area, at, j);
-        j = j + 1;
+impl<'a, 't> Night<'a, 't> {
+    // The entry of recording k.
+    fn entry(&self, k: usize) -> layout::Entry
+        requires { k < length self.now.own.now }
+        ensures { result ≡ entry_at self.now.file.now k }
+    {
+        reading::entry_at(self.file, self.at + 12 * k)
     }
-    to
-}
 
-// Recording i as a test recording, if it is one.
-fn add_test(
-    file: &[u8],
-    table: &[f64],
-    bounds: &[f64],
-    own: &[f64],
-    found: &mut [u32],
-    c: listing::Counts,
-    i: usize,
-    at: usize,
-    count: usize,
-) -> listing::Counts
-    requires { Gathering file.now table.now bounds.now own.now × (i < count_of file.now) × (at ≡ table_place file.now) × (count ≡ count_of file.now) × (c.leaks + 64 ≤ 4096) × (c.touching + 64 ≤ 4096) × (c.tested + (test_of file.now i).tested ≤ 4294967295) × (length found.old ≡ 12288) }
-    ensures { (found_in found.new result ≡ together (found_in found.old c) (test_of file.now i)) × (result.leaks ≤ c.leaks + 64) × (result.touching ≤ c.touching + 64) }
-{
-    let e = reading::entry_at(file, at + 12 * i);
-    if sets::is_test(e.set) {
-        let area = asked_area(table, e);
-        return add_row(file, table, bounds, own, found, c, i, e, area, at, count);
+    // The test recording with recording j, whose own boxes share a point.
+    // Stays said in three contracts, in one word, `IsTestIn`: it ties a test to the night's file, whose bytes `Test` does not hold.
+    fn add_near(&self, found: &mut Found, test: Test, j: usize)
+        requires { IsTestIn self.now.file.now test.number test.entry test.area × (j < length self.now.own.now) × (found.old.counts.leaks < 4096) × (found.old.counts.touching < 4096) × (found.old.counts.tested + (item_of self.now.file.now test.number j).tested ≤ 4294967295) }
+        ensures { (found_in found.new.triples found.new.counts ≡ together (found_in found.old.triples found.old.counts) (item_of self.now.file.now test.number j)) × (found.new.counts.leaks ≤ found.old.counts.leaks + 1) × (found.new.counts.touching ≤ found.old.counts.touching + 1) }
+    {
+        let f = self.entry(j);
+        if sets::is_training(f.set) {
+            let t = self.triangles.tally(test.entry, f, self.own[j]);
+            found.add(test, f.id, t);
+            found.counts.touching += counting::one_if(counting::only_touch(t));
+            found.counts.tested += t.tested;
+        }
     }
-    c
-}
 
-// Everything, in table order; how much.
-pub(crate) fn gather(
-    file: &[u8],
-    table: &[f64],
-    bounds: &[f64],
-    own: &[f64],
-    found: &mut [u32],
-    at: usize,
-    count: usize,
-) -> listing::Counts
-    requires { Gathering file.now table.now bounds.now own.now × (at ≡ table_place file.now) × (count ≡ count_of file.now) × (length found.old ≡ 12288) }
-    ensures { (found_in found.new result ≡ list_to file.now (count_of file.now)) × (result.leaks ≤ 4096) }
-{
-    let mut c = listing::Counts {
-        leaks: 0,
-        touching: 0,
-        tested: 0,
-    };
-    let mut i: usize = 0;
-    while i < count {
-        c = add_test(file, table, bounds, own, found, c, i, at, count);
-        i = i + 1;
+    // The same of any recording j: where their own boxes share no point, none of their triangles' do, and nothing is found.
+    fn add_pair(&self, found: &mut Found, test: Test, j: usize)
+        requires { IsTestIn self.now.file.now test.number test.entry test.area × (j < length self.now.own.now) × (found.old.counts.leaks < 4096) × (found.old.counts.touching < 4096) × (found.old.counts.tested + (item_of self.now.file.now test.number j).tested ≤ 4294967295) }
+        ensures { (found_in found.new.triples found.new.counts ≡ together (found_in found.old.triples found.old.counts) (item_of self.now.file.now test.number j)) × (found.new.counts.leaks ≤ found.old.counts.leaks + 1) × (found.new.counts.touching ≤ found.old.counts.touching + 1) }
+    {
+        if boxes::share_point(self.own[test.number], self.own[j]) {
+            self.add_near(found, test, j);
+        }
     }
-    c
-}
 
-// How many of `count` recordings were formerly held back, whether they meet a test recording or not. Of each entry of the table only its set is read.
-pub(crate) fn formerly(file: &[u8], at: usize, count: usize) -> u32
-    requires { (at ≡ table_place file.now) × (at ≤ 65536) × (count ≡ count_of file.now) × (count ≤ 64) }
-    ensures { result ≡ formerly_held_back file.now }
-{
-    let mut sum: u32 = 0;
-    let mut k: usize = 0;
-    while k < count {
-        let set = reading::u8_at(file, at + 12 * k + 10);
-        sum = sum + counting::one_if(sets::is_retired(set));
-        k = k + 1;
+    // The test recording with each recording.
+    fn add_row(&self, found: &mut Found, test: Test)
+        requires { IsTestIn self.now.file.now test.number test.entry test.area × (found.old.counts.leaks + 64 ≤ 4096) × (found.old.counts.touching + 64 ≤ 4096) × (found.old.counts.tested + (row_to self.now.file.now test.number (count_of self.now.file.now)).tested ≤ 4294967295) }
+        ensures { (found_in found.new.triples found.new.counts ≡ together (found_in found.old.triples found.old.counts) (row_to self.now.file.now test.number (count_of self.now.file.now))) × (found.new.counts.leaks ≤ found.old.counts.leaks + 64) × (found.new.counts.touching ≤ found.old.counts.touching + 64) }
+    {
+        for j in 0..self.own.len() {
+            self.add_pair(found, test, j);
+        }
     }
-    sum
-}
 
-// Room for 64 times 64 leaks, more than any file has.
-pub(crate) fn no_leaks() -> [u32; 12288]
-    ensures { 12288 ≡ length result }
-{
-    [0; 12288]
+    // Recording i as a test recording, if it is one.
+    fn add_test(&self, found: &mut Found, i: usize)
+        requires { (i < length self.now.own.now) × (found.old.counts.leaks + 64 ≤ 4096) × (found.old.counts.touching + 64 ≤ 4096) × (found.old.counts.tested + (test_of self.now.file.now i).tested ≤ 4294967295) }
+        ensures { (found_in found.new.triples found.new.counts ≡ together (found_in found.old.triples found.old.counts) (test_of self.now.file.now i)) × (found.new.counts.leaks ≤ found.old.counts.leaks + 64) × (found.new.counts.touching ≤ found.old.counts.touching + 64) }
+    {
+        let e = self.entry(i);
+        if sets::is_test(e.set) {
+            let test = Test {
+                number: i,
+                entry: e,
+                area: asked_area(self.triangles.shapes, e),
+            };
+            self.add_row(found, test);
+        }
+    }
+
+    // Everything, in table order, where nothing is found yet. It is lent: handed out, it would be on the stack twice.
+    pub(crate) fn gather(&self, found: &mut Found)
+        requires { (found_in found.old.triples found.old.counts ≡ nothing) × (found.old.counts.leaks ≡ 0) × (found.old.counts.touching ≡ 0) }
+        ensures { (found_in found.new.triples found.new.counts ≡ list_to self.now.file.now (count_of self.now.file.now)) × (found.new.counts.leaks ≤ 4096) }
+    {
+        for i in 0..self.own.len() {
+            self.add_test(found, i);
+        }
+    }
+
+    // How many recordings were formerly held back, whether they meet a test recording or not. Of each entry of the table only its set is read.
+    pub(crate) fn formerly(&self) -> u32
+        ensures { result ≡ formerly_held_back self.now.file.now }
+    {
+        let mut sum: u32 = 0;
+        for k in 0..self.own.len() {
+            let set = reading::u8_at(self.file, self.at + 12 * k + 10);
+            sum += counting::one_if(sets::is_retired(set));
+        }
+        sum
+    }
 }

@@ -1,48 +1,52 @@
-// Boxes of a file's triangles and of its recordings, in tables of their own, four values each.
+// Boxes of a file's triangles and of its recordings.
 ghost use Rattle.std.specs.Prelude.{◌≡◌, ◌≤◌, length};
 ghost use Rattle.layout.specs.Parts.{table_place};
 ghost use Rattle.leaklist.specs.Code.{Framed, Owned};
 
-use crate::prepared::shape_in;
+// No box yet.
+const NO_BOX: boxes::Box = boxes::Box {
+    left: 0.0,
+    right: 0.0,
+    bottom: 0.0,
+    top: 0.0,
+};
 
-// The boxes of the first n triangles of the table.
-pub(crate) fn frame(bounds: &mut [f64], table: &[f64], n: usize)
-    requires { (n ≤ 2730) × (length table.now ≡ 30030) × (length bounds.old ≡ 10920) }
-    ensures { Framed table.now n bounds.new }
+// The box of each triangle.
+// Stays with a number, no `zip`: after `iter_mut().zip(..)` nothing is known of what was put.
+pub(crate) fn frame(bounds: &mut [boxes::Box], table: &[shapes::Shape])
+    requires { length bounds.old ≡ length table.now }
+    ensures { Framed table.now (length table.now) bounds.new }
 {
-    let mut k: usize = 0;
-    while k < n {
-        let s = shape_in(table, k);
-        let b = boxes::box_of(s.x0, s.y0, s.x1, s.y1, s.x2, s.y2);
-        boxed::put_box(bounds, k, b);
-        k = k + 1;
+    for (k, s) in table.iter().enumerate() {
+        bounds[k] = boxes::box_of(floats::Triangle {
+            a: s.v0,
+            b: s.v1,
+            c: s.v2,
+        });
     }
 }
 
-// The own boxes of the first n recordings, by the boxes of their triangles.
-pub(crate) fn frame_own(own: &mut [f64], bounds: &[f64], file: &[u8], at: usize, n: usize)
-    requires { (n ≤ 64) × (at ≡ table_place file.now) × (at ≤ 65536) × (length own.old ≡ 256) }
-    ensures { Owned file.now bounds.now n own.new }
+// The own boxes of as many recordings as there is room for, by the boxes of their triangles.
+pub(crate) fn frame_own(own: &mut [boxes::Box], bounds: &[boxes::Box], file: &[u8], at: usize)
+    requires { (length own.old ≤ 64) × (at ≡ table_place file.now) × (at ≤ 65536) }
+    ensures { Owned file.now bounds.now (length own.new) own.new }
 {
-    let mut k: usize = 0;
-    while k < n {
+    for (k, place) in own.iter_mut().enumerate() {
         let e = reading::entry_at(file, at + 12 * k);
-        let b = boxed::over(bounds, e.first / 24, e.count);
-        boxed::put_box(own, k, b);
-        k = k + 1;
+        *place = boxed::around_from(bounds, e.first / 24, e.count);
     }
 }
 
 // Room for the boxes of as many triangles as a file can have.
-pub(crate) fn no_bounds() -> [f64; 10920]
-    ensures { 10920 ≡ length result }
+pub(crate) fn no_bounds() -> [boxes::Box; layout::MOST_TRIANGLES]
+    ensures { 2730 ≡ length result }
 {
-    [0.0; 10920]
+    [NO_BOX; layout::MOST_TRIANGLES]
 }
 
 // And for those of as many recordings.
-pub(crate) fn no_own() -> [f64; 256]
-    ensures { 256 ≡ length result }
+pub(crate) fn no_own() -> [boxes::Box; layout::MOST_RECORDINGS]
+    ensures { 64 ≡ length result }
 {
-    [0.0; 256]
+    [NO_BOX; layout::MOST_RECORDINGS]
 }

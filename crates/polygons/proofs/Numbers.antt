@@ -4,11 +4,15 @@ use mathlib.Core.Path.{◌≡◌, refl, sym, ap, ap₂, subst, ◌∙◌}
 use mathlib.Core.Bool.{Bool, true, false}
 use mathlib.Core.List.{List, [], ◌∷◌, ◌++◌, append_assoc}
 use native.Mathlib.Omega.{arith}
-use lib.Dec.{leb}
-use borrow.Author.Tests.{lt-ltb, le-ltb, leb-true, leb-false}
+use lib.Dec.{ltb}
+use borrow.Author.Tests.{lt-ltb, le-ltb, ltb-true, ltb-false}
 use lib.IntN.{ℤ, pos, negsuc, nat_abs}
 use lib.ListN.{length, set, length-append, length-set}
-use mir.Val.{bool_byte}
+use mir.Val.{bool_byte, sel, to_z, of_z}
+use mir.Syntax.{w16, w32}
+use Rattle.std.specs.Int.{to_le_bytes}
+use lib.Signed.{lt_z}
+use Rattle.std.proofs.lemmas.Int.{of_z-to_z}
 use Rattle.text.specs.Code.{digits}
 use Rattle.text.specs.Decimal.{digit, decimal}
 use Rattle.text.specs.Room.{Measured, Put}
@@ -16,7 +20,7 @@ use Rattle.text.proofs.Decimal.{decimals}
 use Rattle.text.proofs.Room.{put_two, put_as}
 use Rattle.text.proofs.Laws.{width_small, width_most, width_is, tens_and_last, all_digits}
 use Rattle.layout.specs.Bytes.{signed}
-use Rattle.chart.specs.Numbers.{point, size_text, metres}
+use Rattle.chart.specs.Numbers.{size_text, metres}
 use Rattle.polygons.specs.Code.{pair_of, sign_text}
 use Rattle.polygons.proofs.Stores.{one-Put, Put-over}
 
@@ -29,22 +33,21 @@ minus : (v : ℕ) → 2147483648 ≤ v → v < 4294967296 → signed v ≡ negsu
 unfolding signed
 minus v h k = rw (le-ltb v 2147483648 h, lt-ltb v 4294967296 k) refl
 
-pub size_plus : (v : ℕ) → v < 2147483648 → v ≡ nat_abs (signed v)
-size_plus v h = sym (ap nat_abs (plus v h))
-
-pub size_minus : (v : ℕ) → 2147483648 ≤ v → v < 4294967296 → 4294967295 - v + 1 ≡ nat_abs (signed v)
-size_minus v h k = sum v k ∙ sym (ap nat_abs (minus v h k))
+pub cast_is : (v : ℕ) → v < 4294967296 → to_z w32 v ≡ signed v
+cast_is v k = go (ltb v 2147483648) refl
   where
-    sum : (v : ℕ) → v < 4294967296 → 4294967295 - v + 1 ≡ suc (4294967296 - suc v)
-    sum v k = omega (arith, k)
+    go : (b : Bool) → ltb v 2147483648 ≡ b → to_z w32 v ≡ signed v
+    go true e = ap (λ b. sel b (pos v) (negsuc (4294967296 - suc v))) e ∙ sym (plus v (ltb-true v 2147483648 e))
+    go false e = ap (λ b. sel b (pos v) (negsuc (4294967296 - suc v))) e ∙ sym (minus v (ltb-false v 2147483648 e) k)
 
-pub sign_Measured : (v : ℕ) → v < 4294967296 → Measured (sign_text (signed v)) (bool_byte (leb 2147483648 v)) × (bool_byte (leb 2147483648 v) ≤ 1)
+-- an i32 as it is read again from its bits
+pub read_again : (v : ℕ) {z : ℤ} → v < 4294967296 → z ≡ to_z w32 v → to_z w32 (of_z w32 z) ≡ signed v
+read_again v k e = ap (λ z. to_z w32 (of_z w32 z)) e ∙ (ap (to_z w32) (of_z-to_z w32 v k) ∙ cast_is v k)
+
+pub sign_Measured : (z : ℤ) → Measured (sign_text z) (bool_byte (lt_z z (pos 0))) × (bool_byte (lt_z z (pos 0)) ≤ 1)
 unfolding sign_text
-sign_Measured v k = go (leb 2147483648 v) refl
-  where
-    go : (b : Bool) → leb 2147483648 v ≡ b → (bool_byte b ≡ length (sign_text (signed v))) × (bool_byte b ≤ 1)
-    go true e = (sym (ap (λ z. length (sign_text z)) (minus v (leb-true 2147483648 v e) k)), omega arith)
-    go false e = (sym (ap (λ z. length (sign_text z)) (plus v (leb-false 2147483648 v e))), omega arith)
+sign_Measured (pos n) = rw (le-ltb n 0 (omega arith)) (refl, omega arith)
+sign_Measured (negsuc n) = (refl, omega arith)
 
 pub metres_is : (z : ℤ) → sign_text z ++ size_text (nat_abs z) ≡ metres z
 unfolding sign_text metres
@@ -55,12 +58,6 @@ metres_is (negsuc n) = refl
 pub size_length : (n : ℕ) → length (size_text n) ≡ length (decimal (n / 100)) + 3
 unfolding size_text
 size_length n = length-append (decimal (n / 100)) _
-
-pub size_small : (n : ℕ) → n < 1000 → Measured (size_text n) 4
-size_small n h = let a = size_length n in let b = width_small (n / 100) (omega (arith, h)) in omega (arith, a, b)
-
-pub size_wide : (k n : ℕ) → 10 ^ k ≤ n / 100 → n / 100 < 10 ^ suc k → Measured (size_text n) (k + 4)
-size_wide k n h g = let a = size_length n in let b = width_is k (n / 100) h g in omega (arith, a, b)
 
 pub metres_length : (z : ℤ) {l m : ℕ} → Measured (sign_text z) l → Measured (size_text (nat_abs z)) m → Measured (metres z) (l + m)
 metres_length z {l} {m} h k =
@@ -85,14 +82,14 @@ pub one-digit : (w : ℕ) → digit (w % 10) ∷ [] ≡ digits 1 w
 unfolding digits
 one-digit w = refl
 
-pub two_digits : (p w : ℕ) → p ≡ pair_of w → p % 256 ∷ p / 256 ∷ [] ≡ digits 2 w
+pub two_digits : (p w : ℕ) → p ≡ pair_of w → to_le_bytes w16 p ≡ digits 2 w
 unfolding digits
 two_digits p w e = ap₂ (λ a b. a ∷ b ∷ []) (low p (w / 10 % 10) (w % 10) (omega arith) (omega arith) e) (high p (w / 10 % 10) (w % 10) (omega arith) (omega arith) e)
   where
     low : (p t o : ℕ) → t < 10 → o < 10 → p ≡ 48 + t + 256 * (48 + o) → p % 256 ≡ 48 + t
     low p t o h k e = omega (arith, h, k, e)
 
-    high : (p t o : ℕ) → t < 10 → o < 10 → p ≡ 48 + t + 256 * (48 + o) → p / 256 ≡ 48 + o
+    high : (p t o : ℕ) → t < 10 → o < 10 → p ≡ 48 + t + 256 * (48 + o) → p / 256 % 256 ≡ 48 + o
     high p t o h k e = omega (arith, h, k, e)
 
 tens_again : (w : ℕ) → w / 10 / 10 ≡ w / 100
@@ -101,10 +98,6 @@ tens_again w = omega arith
 tens_thrice : (w : ℕ) → w / 10 / 10 / 10 ≡ w / 100 / 10
 tens_thrice w = omega arith
 
-pub three_digits : (w : ℕ) → digits 1 (w / 100) ++ digits 2 w ≡ digits 3 w
-unfolding digits
-three_digits w = rw (tens_again w) refl
-
 pub four_digits : (w : ℕ) → digits 2 (w / 100) ++ digits 2 w ≡ digits 4 w
 unfolding digits
 four_digits w = rw (tens_thrice w, tens_again w) refl
@@ -112,6 +105,13 @@ four_digits w = rw (tens_thrice w, tens_again w) refl
 -- as many digits as a number has are the number
 pub short_is : (k w : ℕ) → 10 ^ k ≤ w → w < 10 ^ suc k → digits (suc k) w ≡ decimal w
 short_is k w h g = ap (λ n. digits n w) (sym (width_is k w h g)) ∙ all_digits w
+
+three_digits : (w : ℕ) → digits 1 (w / 100) ++ digits 2 w ≡ digits 3 w
+unfolding digits
+three_digits w = rw (tens_again w) refl
+
+pub three_is : (w : ℕ) → 100 ≤ w → w < 1000 → digits 1 (w / 100) ++ digits 2 w ≡ decimal w
+three_is w h g = three_digits w ∙ short_is 2 w h g
 
 pub small_is : (w : ℕ) → w < 10 → digits 1 w ≡ decimal w
 small_is w h = ap (λ n. digits n w) (sym (width_small w h)) ∙ all_digits w
@@ -133,15 +133,8 @@ long_is w h =
     joined : (t : List ℕ) (a b c d : ℕ) → (((t ++ (a ∷ [])) ++ (b ∷ [])) ++ (c ∷ [])) ++ (d ∷ []) ≡ t ++ (a ∷ b ∷ c ∷ d ∷ [])
     joined t a b c d = append_assoc ((t ++ (a ∷ [])) ++ (b ∷ [])) (c ∷ []) (d ∷ []) ∙ (append_assoc (t ++ (a ∷ [])) (b ∷ []) (c ∷ d ∷ []) ∙ append_assoc t (a ∷ []) (b ∷ c ∷ d ∷ []))
 
-pub ten_thousand : (w : ℕ) → w ≡ 10000 → decimal 10000 ≡ decimal w
-ten_thousand w e = ap decimal (sym e)
-
 pub ten_thousand_is : 49 ∷ 48 ∷ 48 ∷ 48 ∷ 48 ∷ [] ≡ decimal 10000
 ten_thousand_is = unfold digits in short_is 4 10000 (omega arith) (omega arith)
-
-pub size_is : (n : ℕ) → decimal (n / 100) ++ ((point ∷ []) ++ digits 2 n) ≡ size_text n
-unfolding size_text digits
-size_is n = refl
 
 -- ---- a number in a room
 pub number_some : (v : ℕ) → 3 < length (metres (signed v))
@@ -161,17 +154,15 @@ number_most v k =
     let b = length-append (sign_text z) (size_text (nat_abs z)) in
     let c = size_length (nat_abs z) in
     let d = width_most 7 (nat_abs z / 100) (let h = size_most v k in omega (arith, h)) in
-    let e = sign_Measured v k in
-    let f = e.0 in
-    let g = e.1 in
-    omega (arith, a, b, c, d, f, g)
+    let e = sign_Measured z in
+    omega (arith, a, b, c, d, e.0, e.1)
   where
     size_most : (v : ℕ) → v < 4294967296 → nat_abs (signed v) ≤ 2147483648
-    size_most v k = go (leb 2147483648 v) refl
+    size_most v k = go (ltb v 2147483648) refl
       where
-        go : (b : Bool) → leb 2147483648 v ≡ b → nat_abs (signed v) ≤ 2147483648
-        go true e = let h = leb-true 2147483648 v e in let s = size_minus v h k in omega (arith, h, s)
-        go false e = let h = leb-false 2147483648 v e in let s = size_plus v h in omega (arith, h, s)
+        go : (b : Bool) → ltb v 2147483648 ≡ b → nat_abs (signed v) ≤ 2147483648
+        go true e = let h = ltb-true v 2147483648 e in let s = ap nat_abs (plus v h) in omega (arith, h, s)
+        go false e = let h = ltb-false v 2147483648 e in let s = ap nat_abs (minus v h k) in omega (arith, h, s)
 
 module _ (room : List ℕ) (at v : ℕ) {s n : ℕ} (sign : Measured (sign_text (signed v)) s) (size : n ≡ nat_abs (signed v)) (fits : at + length (metres (signed v)) ≤ length room) where
   pub behind_sign : at + s + length (size_text n) ≤ length (set room at 45)

@@ -3,7 +3,6 @@ use Rattle.std.specs.Prelude.{ℕ, ◌+◌, ◌*◌, ◌/◌, ◌%◌, List, [],
 use Rattle.floats.specs.Numbers.{Point}
 use Rattle.text.specs.Decimal.{digit}
 use Rattle.layout.specs.Bytes.{signed}
-use Rattle.layout.specs.Parts.{Triangle, triangle_of}
 use Rattle.chart.specs.Numbers.{minus}
 
 -- the last two digits of a number as one of two bytes, the byte of the tens being the lower
@@ -17,6 +16,3 @@ sign_text (negsuc n) = minus ∷ []
 
 abbrev pub point_of : ℕ → ℕ → Point ℤ
 point_of x y = record { x = signed x; y = signed y }
-
-abbrev pub triangle_by : ℕ → ℕ → ℕ → ℕ → ℕ → ℕ → Triangle
-triangle_by x0 y0 x1 y1 x2 y2 = triangle_of (signed x0) (signed y0) (signed x1) (signed y1) (signed x2) (signed y2)

@@ -1,14 +1,18 @@
 // The polygon of a triangle in a room, from the 32 bits in which each of its six numbers is stored: put whole, or not at all.
 #![tactic(auto)]
 
-ghost use Rattle.std.specs.Prelude.{◌≡◌, [], ◌∷◌, ◌++◌, ◌+◌, ◌≤◌, ◌<◌, leb, nat_abs, length};
+ghost use Rattle.std.specs.Prelude.{◌≡◌, [], ◌∷◌, ◌++◌, ◌+◌, ◌≤◌, ◌<◌, ◌↔◌, IsSome, IsTrue, nat_abs, length, unwrap_or};
 ghost use Rattle.text.specs.Code.{digits};
 ghost use Rattle.text.specs.Decimal.{decimal};
 ghost use Rattle.text.specs.Room.{Measured, Put};
 ghost use Rattle.layout.specs.Bytes.{signed};
 ghost use Rattle.chart.specs.Numbers.{size_text, metres};
 ghost use Rattle.chart.specs.Words.{polygon_word, polygon_end, comma, point_text, triangle_text};
-ghost use Rattle.polygons.specs.Code.{pair_of, sign_text, point_of, triangle_by};
+ghost use Rattle.layout.specs.Parts.{triangle_by};
+ghost use Rattle.polygons.specs.Code.{pair_of, sign_text, point_of};
+
+// No polygon is longer, whatever 32 bits its numbers have.
+const MOST: usize = 118;
 
 // ---- numbers
 
@@ -16,18 +20,14 @@ ghost use Rattle.polygons.specs.Code.{pair_of, sign_text, point_of, triangle_by}
 fn size_of(v: u32) -> u32
     ensures { (result ≡ nat_abs (signed v)) × (result ≤ 2147483648) }
 {
-    if v < 2147483648 {
-        v
-    } else {
-        4294967295 - v + 1
-    }
+    v.cast_signed().unsigned_abs()
 }
 
 // How long its sign is.
 fn sign_length(v: u32) -> usize
     ensures { Measured (sign_text (signed v)) result × (result ≤ 1) }
 {
-    (2147483648 <= v) as usize
+    usize::from(v.cast_signed() < 0)
 }
 
 // How long so many centimetres are, without a sign.
@@ -35,28 +35,7 @@ fn size_length(n: u32) -> usize
     requires { n ≤ 2147483648 }
     ensures { Measured (size_text n) result × (result ≤ 11) }
 {
-    if n < 100000 {
-        if n < 1000 {
-            return 4;
-        }
-        if n < 10000 {
-            return 5;
-        }
-        return 6;
-    }
-    if n < 1000000 {
-        return 7;
-    }
-    if n < 10000000 {
-        return 8;
-    }
-    if n < 100000000 {
-        return 9;
-    }
-    if n < 1000000000 {
-        return 10;
-    }
-    11
+    text::width(n / 100) + 3
 }
 
 // How long the text of a number is.
@@ -66,22 +45,32 @@ fn number_length(v: u32) -> usize
     sign_length(v) + size_length(size_of(v))
 }
 
+// Bytes, for which there is room, from a place on; the place behind them. They come by value: of a lent literal the compiled code asks whether it overlaps the room.
+fn put_bytes<const N: usize>(room: &mut [u8], at: usize, bytes: [u8; N]) -> usize
+    requires { at + N ≤ length room.old }
+    ensures { Put room.old at bytes.entry room.new result }
+{
+    room[at..at + N].copy_from_slice(&bytes);
+    at + N
+}
+
 // The last digit of w, for which there is room, from a place on; the place behind it.
+// Stays beside put_two and put_four: with digits one by one, in a loop, and each polygon measured again a text took 1.6 times the second program's time, and the bar is 1.05 (docs/PERFORMANCE.md, on `wkt`).
 fn put_one(room: &mut [u8], at: usize, w: u32) -> usize
     requires { at + 1 ≤ length room.old }
     ensures { Put room.old at (digits 1 w) room.new result }
 {
-    room[at] = text::digit(w);
-    at + 1
+    put_bytes(room, at, [text::digit(w)])
 }
 
 // The last two digits as a number of two bytes, tens in the lower, which the compiler stores at once.
-fn pair_of(w: u32) -> u32
+// Stays: without this and without the minus put always (put_number) a text took 1.1 times the second program's time, with both 0.93 to 0.98, and the bar is 1.05 (docs/PERFORMANCE.md, on `wkt`).
+fn pair_of(w: u32) -> u16
     ensures { result ≡ pair_of w }
 {
     let c = w % 100;
     let tens = c / 10;
-    12336 + 256 * c - 2559 * tens
+    (12336 + 256 * c - 2559 * tens) as u16
 }
 
 // The last two digits, likewise.
@@ -89,10 +78,7 @@ fn put_two(room: &mut [u8], at: usize, w: u32) -> usize
     requires { at + 2 ≤ length room.old }
     ensures { Put room.old at (digits 2 w) room.new result }
 {
-    let pair = pair_of(w);
-    room[at] = (pair % 256) as u8;
-    room[at + 1] = (pair / 256) as u8;
-    at + 2
+    put_bytes(room, at, pair_of(w).to_le_bytes())
 }
 
 // The last four.
@@ -105,6 +91,7 @@ fn put_four(room: &mut [u8], at: usize, w: u32) -> usize
 }
 
 // A number below ten thousand, for which there is room, likewise.
+// Stays a ladder: a loop over the digits is one of the two things with which the bar was missed (put_one).
 fn put_short(room: &mut [u8], at: usize, w: u32) -> usize
     requires { (w < 10000) × (at + length (decimal w) ≤ length room.old) }
     ensures { Put room.old at (decimal w) room.new result }
@@ -122,19 +109,6 @@ fn put_short(room: &mut [u8], at: usize, w: u32) -> usize
     put_four(room, at, w)
 }
 
-// 10000 likewise.
-fn put_ten_thousand(room: &mut [u8], at: usize) -> usize
-    requires { at + 5 ≤ length room.old }
-    ensures { Put room.old at (decimal 10000) room.new result }
-{
-    room[at] = b'1';
-    room[at + 1] = b'0';
-    room[at + 2] = b'0';
-    room[at + 3] = b'0';
-    room[at + 4] = b'0';
-    at + 5
-}
-
 // Whole metres likewise. No number of a good file has five digits before the point but 10000.
 fn put_whole(room: &mut [u8], at: usize, w: u32) -> usize
     requires { (w < 100000000) × (at + length (decimal w) ≤ length room.old) }
@@ -144,7 +118,7 @@ fn put_whole(room: &mut [u8], at: usize, w: u32) -> usize
         return put_short(room, at, w);
     }
     if w == 10000 {
-        return put_ten_thousand(room, at);
+        return put_bytes(room, at, *b"10000");
     }
     let p = put_short(room, at, w / 10000);
     put_four(room, p, w)
@@ -156,11 +130,12 @@ fn put_size(room: &mut [u8], at: usize, n: u32) -> usize
     ensures { Put room.old at (size_text n) room.new result }
 {
     let p = put_whole(room, at, n / 100);
-    let q = put_byte(room, p, b'.');
+    let q = put_bytes(room, p, *b".");
     put_two(room, q, n)
 }
 
 // A number likewise. Where it has no sign, its first digit is put over the minus: so no test of the sign is a branch.
+// Stays: a branch on the sign costs more than a byte (docs/DECISIONS.md, 153), and with it and single digits the bar was missed (pair_of).
 fn put_number(room: &mut [u8], at: usize, v: u32) -> usize
     requires { at + length (metres (signed v)) ≤ length room.old }
     ensures { Put room.old at (metres (signed v)) room.new result }
@@ -172,16 +147,8 @@ fn put_number(room: &mut [u8], at: usize, v: u32) -> usize
 
 // ---- points and polygons
 
-// A byte, for which there is room, from a place on; the place behind it.
-fn put_byte(room: &mut [u8], at: usize, b: u8) -> usize
-    requires { at + 1 ≤ length room.old }
-    ensures { Put room.old at (b ∷ []) room.new result }
-{
-    room[at] = b;
-    at + 1
-}
-
 // How long the text of a point is.
+// Stays x and y, as `point_of` takes them, here and in put_point and put_next: a struct made of two of the six numbers for each call is no plainer.
 fn point_length(x: u32, y: u32) -> usize
     ensures { Measured (point_text (point_of x y)) result × (result ≤ 25) }
 {
@@ -189,9 +156,10 @@ fn point_length(x: u32, y: u32) -> usize
 }
 
 // How long the polygon of a triangle is.
-pub fn length_of(x0: u32, y0: u32, x1: u32, y1: u32, x2: u32, y2: u32) -> usize
-    ensures { Measured (triangle_text (triangle_by x0 y0 x1 y1 x2 y2)) result × (result ≤ 118) }
+pub fn length_of(six: [u32; 6]) -> usize
+    ensures { Measured (triangle_text (triangle_by six)) result × (result ≤ 118) }
 {
+    let [x0, y0, x1, y1, x2, y2] = six;
     18 + 2 * point_length(x0, y0) + point_length(x1, y1) + point_length(x2, y2)
 }
 
@@ -201,89 +169,48 @@ fn put_point(room: &mut [u8], at: usize, x: u32, y: u32) -> usize
     ensures { Put room.old at (point_text (point_of x y)) room.new result }
 {
     let p = put_number(room, at, x);
-    let q = put_byte(room, p, b' ');
+    let q = put_bytes(room, p, *b" ");
     put_number(room, q, y)
 }
 
 // A comma, a space and a point likewise.
 fn put_next(room: &mut [u8], at: usize, x: u32, y: u32) -> usize
-    requires { at + (2 + length (point_text (point_of x y))) ≤ length room.old }
+    requires { at + length (comma ++ point_text (point_of x y)) ≤ length room.old }
     ensures { Put room.old at (comma ++ point_text (point_of x y)) room.new result }
 {
-    let p = put_byte(room, at, b',');
-    let q = put_byte(room, p, b' ');
-    put_point(room, q, x, y)
-}
-
-// The word of a polygon and its two brackets likewise.
-fn put_word(room: &mut [u8], at: usize) -> usize
-    requires { at + 10 ≤ length room.old }
-    ensures { Put room.old at polygon_word room.new result }
-{
-    room[at] = b'P';
-    room[at + 1] = b'O';
-    room[at + 2] = b'L';
-    room[at + 3] = b'Y';
-    room[at + 4] = b'G';
-    room[at + 5] = b'O';
-    room[at + 6] = b'N';
-    room[at + 7] = b' ';
-    room[at + 8] = b'(';
-    room[at + 9] = b'(';
-    at + 10
-}
-
-// Two closing brackets likewise.
-fn put_end(room: &mut [u8], at: usize) -> usize
-    requires { at + 2 ≤ length room.old }
-    ensures { Put room.old at polygon_end room.new result }
-{
-    let p = put_byte(room, at, b')');
-    put_byte(room, p, b')')
+    let p = put_bytes(room, at, *b", ");
+    put_point(room, p, x, y)
 }
 
 // A polygon likewise: the triangle's vertices, and the first again.
-fn put_in(room: &mut [u8], at: usize, x0: u32, y0: u32, x1: u32, y1: u32, x2: u32, y2: u32) -> usize
-    requires { at + length (triangle_text (triangle_by x0 y0 x1 y1 x2 y2)) ≤ length room.old }
-    ensures { Put room.old at (triangle_text (triangle_by x0 y0 x1 y1 x2 y2)) room.new result }
+fn put_in(room: &mut [u8], at: usize, six: [u32; 6]) -> usize
+    requires { at + length (triangle_text (triangle_by six)) ≤ length room.old }
+    ensures { Put room.old at (triangle_text (triangle_by six)) room.new result }
 {
-    let a = put_word(room, at);
+    let [x0, y0, x1, y1, x2, y2] = six;
+    let a = put_bytes(room, at, *b"POLYGON ((");
     let b = put_point(room, a, x0, y0);
     let c = put_next(room, b, x1, y1);
     let d = put_next(room, c, x2, y2);
     let e = put_next(room, d, x0, y0);
-    put_end(room, e)
+    put_bytes(room, e, *b"))")
 }
 
-// Whether a room of so many bytes has room for the polygon of a triangle from a place on. It is measured only where there is less than any could need.
-fn has_room(most: usize, at: usize, x0: u32, y0: u32, x1: u32, y1: u32, x2: u32, y2: u32) -> bool
-    ensures { result ≡ leb (at + length (triangle_text (triangle_by x0 y0 x1 y1 x2 y2))) most }
+// Whether so many bytes are enough for the polygon of a triangle. It is measured only where there are fewer than any could need. The numbers are lent, since of a lent array it is known that each number has 32 bits.
+fn is_enough(left: usize, six: &[u32; 6]) -> bool
+    ensures { IsTrue result ↔ (length (triangle_text (triangle_by six.now)) ≤ left) }
 {
-    if most < at {
-        return false;
-    }
-    let left = most - at;
-    if 118 <= left {
-        return true;
-    }
-    length_of(x0, y0, x1, y1, x2, y2) <= left
+    MOST <= left || length_of(*six) <= left
 }
 
-// Puts the polygon of a triangle into the room from a place on, and hands back the place behind it. Where it does not fit, nothing is put, and the place stays.
-pub fn put(
-    room: &mut [u8],
-    at: usize,
-    x0: u32,
-    y0: u32,
-    x1: u32,
-    y1: u32,
-    x2: u32,
-    y2: u32,
-) -> usize
-    ensures { Put room.old at (triangle_text (triangle_by x0 y0 x1 y1 x2 y2)) room.new result }
+// Puts the polygon of a triangle, by its six numbers as they are stored, into the room from a place on: the place behind it, or none where it does not fit and nothing is put.
+pub fn put(room: &mut [u8], at: usize, six: [u32; 6]) -> Option<usize>
+    ensures placed { Put room.old at (triangle_text (triangle_by six)) room.new (unwrap_or result at) }
+    ensures fits { IsSome result ↔ (at + length (triangle_text (triangle_by six)) ≤ length room.old) }
 {
-    if has_room(room.len(), at, x0, y0, x1, y1, x2, y2) {
-        return put_in(room, at, x0, y0, x1, y1, x2, y2);
+    let left = room.len().checked_sub(at)?;
+    if !is_enough(left, &six) {
+        return None;
     }
-    at
+    Some(put_in(room, at, six))
 }

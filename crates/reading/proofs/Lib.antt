@@ -1,1 +1,2 @@
 pub mod Beyond
+pub mod Signed

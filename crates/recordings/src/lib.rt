@@ -1,67 +1,78 @@
 // The recordings of a footprint file and their parts.
 #![tactic(auto)]
 
-ghost use Rattle.std.specs.Prelude.{◌≡◌, ◌+◌, ◌*◌};
-ghost use Rattle.layout.specs.Verdict.{number_at};
-ghost use Rattle.layout.specs.Recordings.{no_recording};
+ghost use Rattle.std.specs.Prelude.{◌≡◌};
+ghost use Rattle.layout.specs.Recordings.{recording_of, part_of};
 ghost use Rattle.layout.specs.Promise.{Recorded, Parted};
+ghost use Rattle.recordings.specs.Found.{no_recording_by, recorded, parted};
+ghost use Rattle.recordings.specs.declared.Missing.TheVariants.{File};
 
-fn no_recording(number: u32, place: u32) -> layout::Recording
-    ensures { result ≡ no_recording (number_at number place) }
-{
-    layout::Recording {
-        number,
-        place,
-        id: 0,
-        first: 0,
-        count: 0,
-        set: 0,
-        last: 0,
+use footprint::Footprint;
+use layout::{Entry, Recording, Refused};
+
+// Why there is no recording k: the file is refused, or it has no such recording.
+#[derive(Clone, Copy)]
+enum Missing {
+    File(Refused),
+    NoSuch,
+}
+
+impl From<Refused> for Missing {
+    ghost from_gives = { λ r m. m ≡ File r };
+
+    fn from(refused: Refused) -> Missing {
+        Missing::File(refused)
     }
+}
+
+// A refusal's number and place, all else zero; 10 at 0 where there is no such recording.
+impl From<Missing> for Recording {
+    ghost from_gives = { λ m r. r ≡ no_recording_by m };
+
+    fn from(m: Missing) -> Recording {
+        let (number, place) = match m {
+            Missing::File(r) => (r.why.number(), r.place),
+            Missing::NoSuch => (10, 0),
+        };
+        Recording {
+            number,
+            place,
+            id: 0,
+            first: 0,
+            count: 0,
+            set: 0,
+            last: 0,
+        }
+    }
+}
+
+// A file that is not refused, and its entry k.
+fn found(file: &[u8], k: usize) -> Result<(Footprint<'_>, Entry), Missing>
+    ensures recording { recorded result ≡ recording_of file.now k }
+    ensures part { parted result ≡ part_of file.now k }
+{
+    let footprint = Footprint::read(file)?;
+    let e = footprint.entry(k).ok_or(Missing::NoSuch)?;
+    Ok((footprint, e))
 }
 
 // Recording k of a file: its entry, or the file's own refusal, or 10 at 0 where there is no such recording.
-pub fn recording(file: &[u8], k: usize) -> layout::Recording
+// Stays a number beside an entry: `meskelow_recording` hands them to C.
+pub fn recording(file: &[u8], k: usize) -> Recording
     ensures { Recorded file.now k result }
 {
-    let v = footprint::check(file);
-    if v.number != 0 {
-        return no_recording(v.number, v.place);
+    match found(file, k) {
+        Ok((_, e)) => e.into(),
+        Err(missing) => missing.into(),
     }
-    let n = file.len();
-    if reading::u32_at(file, n - 8) as usize <= k {
-        return no_recording(10, 0);
-    }
-    let table = reading::u32_at(file, n - 12) as usize;
-    let e = reading::entry_at(file, table + 12 * k);
-    layout::Recording {
-        number: 0,
-        place: 0,
-        id: e.id,
-        first: e.first,
-        count: e.count,
-        set: e.set,
-        last: e.last,
-    }
-}
-
-// Where the triangles of a recording end.
-fn part_end(first: u32, count: u32) -> usize
-    ensures { result ≡ first + 24 * count }
-{
-    first as usize + 24 * count as usize
 }
 
 // The triangles of recording k, as that part of the file's bytes; no bytes where `recording` refuses.
 pub fn part(file: &[u8], k: usize) -> &[u8]
     ensures { Parted file.now k result.now }
 {
-    let n = file.len();
-    let r = recording(file, k);
-    if r.number != 0 {
-        return &file[n..n];
+    match found(file, k) {
+        Ok((footprint, e)) => footprint.part(e),
+        Err(_) => &[],
     }
-    let a = r.first as usize;
-    let b = part_end(r.first, r.count);
-    &file[a..b]
 }

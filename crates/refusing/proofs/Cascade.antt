@@ -1,78 +1,65 @@
 -- The refusals one after the other, each where those before it say nothing. Assumes nothing.
-use Prim.Native.Nat.{ℕ, ◌+◌, ◌*◌, ◌/◌}
-use mathlib.Core.Path.{◌≡◌, refl, sym, ◌∙◌}
-use mathlib.Core.Bool.{Bool, true, false, not, ◌||◌, false≢true}
-use mathlib.Core.List.{List, []}
-use lib.Dec.{eqb, ltb}
-use lib.IntN.{ℤ}
-use lib.ListN.{length}
-use borrow.Author.Tests.{ne_eqb, eqb-true, not-false}
-use Rattle.filing.specs.Given.{given_of, sum_of, entry_of, triangle_in}
-use Rattle.filing.specs.Refusals.{number_if, or_else, first_from, entry_number, triangle_number, refusal}
+use Prim.Native.Nat.{ℕ}
+use mathlib.Core.Path.{◌≡◌, refl, ◌∙◌}
+use mathlib.Core.List.{[]}
+use borrow.Author.Tests.{ne_eqb}
+use Rattle.filing.specs.Given.{Given, given_of, recordings, triangles, triangle_in}
+use Rattle.filing.specs.Refusals.{number_if, or_else, first_from, is_unequal, entry_number, is_wrong_sum, triangle_number, is_too_many, has_no_room, refusal}
 
--- what is left of two alternatives of which none holds
-left : (a b : Bool) → false ≡ (a || b) → (a ≡ false) × (b ≡ false)
-left true b e = absurd (false≢true e)
-left false b e = (refl, sym e)
+-- the first of two numbers, where it says something and where not
+stop : (a rest : ℕ) {n : ℕ} → n ≡ a → (n ≡ 0 → ⊥) → n ≡ or_else a rest
+stop a rest {n} e z = rw (← e, ne_eqb n 0 z) refl
 
-module _ (ids counts sets lasts : List ℕ) (numbers : List ℤ) (room : ℕ) where
-  abbrev broken : Bool
-  broken = not (eqb (6 * (length numbers / 6)) (length numbers))
+go : (a rest : ℕ) → 0 ≡ a → rest ≡ or_else a rest
+go a rest e = rw (← e) refl
 
-  abbrev unequal : Bool
-  unequal = not (eqb (length counts) (length ids)) || (not (eqb (length sets) (length ids)) || (not (eqb (length lasts) (length ids)) || broken))
-
+module _ (g : Given) (room : ℕ) where
   abbrev entries_say : ℕ
-  entries_say = first_from (entry_number (given_of ids counts sets lasts [])) (length ids) 0
-
-  abbrev add_up : Bool
-  add_up = eqb (sum_of counts (length counts)) (length numbers / 6)
+  entries_say = first_from (entry_number g) (recordings g) 0
 
   abbrev triangles_say : ℕ
-  triangles_say = first_from (triangle_number (given_of [] [] [] [] numbers)) (length numbers / 6) 0
+  triangles_say = first_from (triangle_number (given_of [] [] [] [] g.numbers)) (triangles g) 0
 
   abbrev last_says : ℕ
-  last_says = or_else (number_if (ltb 64 (length ids)) 13) (number_if (ltb room (24 * (length numbers / 6) + 12 * length ids + 12) || ltb 65536 (24 * (length numbers / 6) + 12 * length ids + 12)) 19)
+  last_says = or_else (number_if (is_too_many g) 13) (number_if (has_no_room g room) 19)
 
-  -- a list whose length is not another one has as many as there are ids
-  as_many : (list : List ℕ) → not (eqb (length list) (length ids)) ≡ false → length list ≡ length ids
-  as_many list h = eqb-true (length list) (length ids) (not-false (eqb (length list) (length ids)) h)
+  abbrev after_sum : ℕ
+  after_sum = or_else triangles_say last_says
 
-  pub same_lengths : false ≡ unequal → (length counts ≡ length ids) × (length sets ≡ length ids) × (length lasts ≡ length ids)
-  same_lengths h =
-      let c = left (not (eqb (length counts) (length ids))) (not (eqb (length sets) (length ids)) || (not (eqb (length lasts) (length ids)) || broken)) h in
-      let s = left (not (eqb (length sets) (length ids))) (not (eqb (length lasts) (length ids)) || broken) (sym c.1) in
-      let l = left (not (eqb (length lasts) (length ids))) broken (sym s.1) in
-      (as_many counts c.0, as_many sets s.0, as_many lasts l.0)
+  abbrev after_entries : ℕ
+  after_entries = or_else (number_if (is_wrong_sum g) 15) after_sum
+
+  abbrev after_lists : ℕ
+  after_lists = or_else entries_say after_entries
 
   -- the cascade, in the words of the code
-  in_turn : refusal (given_of ids counts sets lasts numbers) room ≡ or_else (number_if unequal 15) (or_else entries_say (or_else (number_if (not (eqb (sum_of counts (length ids)) (length numbers / 6))) 15) (or_else triangles_say last_says)))
-  unfolding refusal entry_number entry_of triangle_number triangle_in
+  in_turn : or_else (number_if (is_unequal g) 15) after_lists ≡ refusal g room
+  unfolding refusal triangle_number triangle_in
   in_turn = refl
 
-  pub at_once : true ≡ unequal → 15 ≡ refusal (given_of ids counts sets lasts numbers) room
-  at_once u = sym (in_turn ∙ rw (← u) refl)
+  pub by_lists : {n : ℕ} → n ≡ number_if (is_unequal g) 15 → (n ≡ 0 → ⊥) → n ≡ refusal g room
+  by_lists e z = stop (number_if (is_unequal g) 15) after_lists e z ∙ in_turn
 
-  module _ (u : false ≡ unequal) {x : ℕ} (e : x ≡ entries_say) where
-    past_lengths : refusal (given_of ids counts sets lasts numbers) room ≡ or_else x (or_else (number_if (not add_up) 15) (or_else triangles_say last_says))
-    past_lengths = in_turn ∙ rw (← u, ← e, (same_lengths u).0) refl
+  module _ (u : 0 ≡ number_if (is_unequal g) 15) where
+    past_lists : after_lists ≡ refusal g room
+    past_lists = go (number_if (is_unequal g) 15) after_lists u ∙ in_turn
 
-    pub by_entry : (x ≡ 0 → ⊥) → x ≡ refusal (given_of ids counts sets lasts numbers) room
-    by_entry z = sym (past_lengths ∙ rw (ne_eqb x 0 z) refl)
+    pub by_entry : {n : ℕ} → n ≡ entries_say → (n ≡ 0 → ⊥) → n ≡ refusal g room
+    by_entry e z = stop entries_say after_entries e z ∙ past_lists
 
-    module _ (z : x ≡ 0) where
-      past_entries : refusal (given_of ids counts sets lasts numbers) room ≡ or_else (number_if (not add_up) 15) (or_else triangles_say last_says)
-      past_entries = past_lengths ∙ rw z refl
+    module _ (o : 0 ≡ entries_say) where
+      past_entries : after_entries ≡ refusal g room
+      past_entries = go entries_say after_entries o ∙ past_lists
 
-      pub by_sum : false ≡ add_up → 15 ≡ refusal (given_of ids counts sets lasts numbers) room
-      by_sum s = sym (past_entries ∙ rw (← s) refl)
+      pub by_sum : {n : ℕ} → n ≡ number_if (is_wrong_sum g) 15 → (n ≡ 0 → ⊥) → n ≡ refusal g room
+      by_sum e z = stop (number_if (is_wrong_sum g) 15) after_sum e z ∙ past_entries
 
-      module _ (s : true ≡ add_up) {y : ℕ} (f : y ≡ triangles_say) where
-        past_sum : refusal (given_of ids counts sets lasts numbers) room ≡ or_else y last_says
-        past_sum = past_entries ∙ rw (← s, ← f) refl
+      module _ (s : 0 ≡ number_if (is_wrong_sum g) 15) where
+        past_sum : after_sum ≡ refusal g room
+        past_sum = go (number_if (is_wrong_sum g) 15) after_sum s ∙ past_entries
 
-        pub by_triangle : (y ≡ 0 → ⊥) → y ≡ refusal (given_of ids counts sets lasts numbers) room
-        by_triangle n = sym (past_sum ∙ rw (ne_eqb y 0 n) refl)
+        pub by_triangle : {n : ℕ} → n ≡ triangles_say → (n ≡ 0 → ⊥) → n ≡ refusal g room
+        by_triangle e z = stop triangles_say last_says e z ∙ past_sum
 
-        pub by_last : y ≡ 0 → {v : ℕ} → v ≡ last_says → v ≡ refusal (given_of ids counts sets lasts numbers) room
-        by_last n q = sym (past_sum ∙ rw (n, ← q) refl)
+        pub by_last : 0 ≡ triangles_say → {n : ℕ} → n ≡ last_says → n ≡ refusal g room
+        by_last t e = e ∙ (go triangles_say last_says t ∙ past_sum)

@@ -1,4 +1,4 @@
--- 13 and 19, of numbers: each test as it comes out. Assumes nothing.
+-- Of a file that would be longer than a file may be 19 is said, whatever the room: so with over 2,730 triangles its length need not be computed. Assumes nothing.
 use Prim.Native.Nat.{ℕ, ◌+◌, ◌*◌, ◌<◌, ◌≤◌}
 use mathlib.Core.Path.{◌≡◌, refl}
 use mathlib.Core.Bool.{◌||◌, or-true}
@@ -13,15 +13,5 @@ module _ (recordings triangles room : ℕ) where
   abbrev last : ℕ
   last = or_else (number_if (ltb 64 recordings) 13) (number_if (ltb room size || ltb 65536 size) 19)
 
-  pub many : 64 < recordings → 13 ≡ last
-  many h = rw (lt-ltb 64 recordings h) refl
-
-  module _ (few : recordings ≤ 64) where
-    pub short : room < size → 19 ≡ last
-    short h = rw (le-ltb 64 recordings few, lt-ltb room size h) refl
-
-    pub long : 65536 < size → 19 ≡ last
-    long h = rw (le-ltb 64 recordings few, lt-ltb 65536 size h, or-true (ltb room size)) refl
-
-    pub fits : size ≤ room → size ≤ 65536 → 0 ≡ last
-    fits h g = rw (le-ltb 64 recordings few, le-ltb room size h, le-ltb 65536 size g) refl
+  pub long : recordings ≤ 64 → 65536 < size → 19 ≡ last
+  long few h = rw (le-ltb 64 recordings few, lt-ltb 65536 size h, or-true (ltb room size)) refl

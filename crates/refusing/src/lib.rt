@@ -1,25 +1,64 @@
 // The refusals of lists that are to be written as a footprint file, in their order. The rules of an entry and of a triangle are those that a file is read by, but that nothing is written with the set that is retired.
 #![tactic(auto)]
 
-ghost use Rattle.std.specs.Prelude.{◌≡◌, not, ◌||◌, [], ◌+◌, ◌*◌, ◌/◌, ◌<◌, eqb, ltb, length, get_or};
-ghost use Rattle.layout.specs.Rules.{is_seen};
-ghost use Rattle.filing.specs.Given.{given_of, entry_by, sum_of};
-ghost use Rattle.filing.specs.Refusals.{ids_before, number_if, or_else, first_from, new_entry_rule, entry_number, triangle_number, refusal as refusal_of};
+ghost use Rattle.std.specs.Prelude.{◌≡◌, [], ◌/◌, ◌<◌, length, get_or, IfOk};
+ghost use Rattle.layout.specs.Parts.{triangle_by};
+ghost use Rattle.layout.specs.Rules.{is_seen, triangle_rule};
+ghost use Rattle.filing.specs.Given.{given_of, recordings, triangle_in};
+ghost use Rattle.filing.specs.Lists.{given};
+ghost use Rattle.filing.specs.Refusals.{ids_before, number_if, or_else, first_from, new_entry_rule, is_unequal, entry_number, is_wrong_sum, triangle_number, is_too_many, has_no_room, refusal as refusal_of};
+ghost use Rattle.layout.specs.Told.{fault_number};
+ghost use Rattle.refusing.specs.Told.{IsOfRule, refusal_number, told};
 
-// 15 at once, of five lengths: whether the lists of recordings differ, or a triangle is broken off.
-fn is_unequal(ids: usize, counts: usize, sets: usize, lasts: usize, numbers: usize) -> bool
-    ensures { result ≡ (not (eqb counts ids) || (not (eqb sets ids) || (not (eqb lasts ids) || not (eqb (6 * (numbers / 6)) numbers)))) }
+use filing::Lists;
+use layout::{ENTRY, Entry, Fault, MOST_BYTES, MOST_RECORDINGS, MOST_TRIANGLES, TRAILER, TRIANGLE};
+
+// Why lists are not written, by the numbers of the refusal table. Some of these mean other things here than of a file that is read.
+#[derive(Clone, Copy, Debug, PartialEq, Eq)]
+pub enum WriteRefusal {
+    TooMany = 13,
+    Entry = 14,
+    Unequal = 15,
+    SameId = 16,
+    OutOfRange = 17,
+    NoArea = 18,
+    NoRoom = 19,
+}
+
+impl WriteRefusal {
+    // The number of the refusal.
+    pub fn number(self) -> u32
+        ensures { result ≡ refusal_number self }
+    {
+        self as u32
+    }
+}
+
+// 15 at once: the lists of recordings differ in length, or a triangle is broken off.
+fn lists_of<'a>(
+    ids: &'a [u32],
+    counts: &'a [u32],
+    sets: &'a [u8],
+    lasts: &'a [u8],
+    numbers: &'a [i32],
+) -> Result<Lists<'a>, WriteRefusal>
+    ensures same { IfOk result (λ l. given l ≡ given_of ids.now counts.now sets.now lasts.now numbers.now) }
+    ensures number { told result ≡ number_if (is_unequal (given_of ids.now counts.now sets.now lasts.now numbers.now)) 15 }
 {
-    if counts != ids {
-        return true;
+    if counts.len() != ids.len()
+        || sets.len() != ids.len()
+        || lasts.len() != ids.len()
+        || numbers.len() % 6 != 0
+    {
+        return Err(WriteRefusal::Unequal);
     }
-    if sets != ids {
-        return true;
-    }
-    if lasts != ids {
-        return true;
-    }
-    6 * (numbers / 6) != numbers
+    Ok(Lists {
+        ids,
+        counts,
+        sets,
+        lasts,
+        numbers,
+    })
 }
 
 // Whether one of the first i ids is id i. All of them are compared, whether one was seen or not: so several are compared at once in the compiled code.
@@ -28,120 +67,116 @@ fn is_seen(ids: &[u32], i: usize) -> bool
     ensures { result ≡ is_seen (get_or ids.now i 0) (ids_before ids.now i) }
 {
     let id = ids[i];
-    let mut seen = false;
-    let mut j: usize = 0;
-    while j < i {
-        seen = (id == ids[j]) | seen;
-        j = j + 1;
-    }
-    seen
+    ids[..i]
+        .iter()
+        .fold(false, |seen, &other| (id == other) | seen)
 }
 
-// The number of an entry that begins where the one before ends, as at 0: 14, 16 or 0.
-fn entry_number(id: u32, count: u32, set: u8, last: u8, seen: bool) -> u32
-    ensures { result ≡ new_entry_rule (entry_by id 0 count set last) 0 seen }
+// The reader's reason against an entry or a triangle, which is the writer's too.
+fn reason(why: Fault) -> WriteRefusal
+    requires { IsOfRule why }
+    ensures { refusal_number result ≡ fault_number why }
+{
+    match why {
+        Fault::Entry => WriteRefusal::Entry,
+        Fault::SameId => WriteRefusal::SameId,
+        Fault::OutOfRange => WriteRefusal::OutOfRange,
+        _ => WriteRefusal::NoArea,
+    }
+}
+
+// The rule of an entry that begins where the one before ends: 14 before 16.
+fn entry_rule(e: Entry, seen: bool) -> Result<(), WriteRefusal>
+    ensures { told result ≡ new_entry_rule e e.first seen }
 {
     // The set that is retired, and those that there are not.
-    if 1 < set {
-        return 14;
+    if 1 < e.set {
+        return Err(WriteRefusal::Entry);
     }
-    let e = layout::Entry {
-        id,
-        first: 0,
-        count,
-        set: set as u32,
-        last: last as u32,
-    };
-    judge::entry_rule(e, 0, seen)
+    judge::entry_rule(e, e.first, seen).map_err(reason)
 }
 
-// 14 and 16 of each recording in turn.
-fn entries(ids: &[u32], counts: &[u32], sets: &[u8], lasts: &[u8]) -> u32
-    requires { (length counts.now ≡ length ids.now) × (length sets.now ≡ length ids.now) × (length lasts.now ≡ length ids.now) }
-    ensures { result ≡ first_from (entry_number (given_of ids.now counts.now sets.now lasts.now [])) (length ids.now) 0 }
+// 14 and 16 of each recording in turn. Where its entry begins does not matter to the rule, so it is put at 0.
+fn entries(lists: Lists<'_>) -> Result<(), WriteRefusal>
+    ensures { told result ≡ first_from (entry_number (given lists.entry)) (recordings (given lists.entry)) 0 }
 {
-    let mut i: usize = 0;
-    while i < ids.len() {
-        let seen = is_seen(ids, i);
-        let number = entry_number(ids[i], counts[i], sets[i], lasts[i], seen);
-        if number != 0 {
-            return number;
-        }
-        i = i + 1;
+    for i in 0..lists.ids.len() {
+        let e = Entry {
+            id: lists.ids[i],
+            first: 0,
+            count: lists.counts[i],
+            set: u32::from(lists.sets[i]),
+            last: u32::from(lists.lasts[i]),
+        };
+        entry_rule(e, is_seen(lists.ids, i))?;
     }
-    0
+    Ok(())
 }
 
-// Whether the counts add up to so many triangles. What is left is counted down, so no sum can wrap.
-fn adds_up(counts: &[u32], triangles: usize) -> bool
-    ensures { result ≡ eqb (sum_of counts.now (length counts.now)) triangles }
+// 15 where the counts do not add up to the triangles. What is left is counted down, so no sum can wrap.
+fn adds_up(lists: Lists<'_>) -> Result<(), WriteRefusal>
+    ensures { told result ≡ number_if (is_wrong_sum (given lists.entry)) 15 }
 {
-    let mut left = triangles;
-    let mut i: usize = 0;
-    while i < counts.len() {
-        let count = counts[i] as usize;
-        if left < count {
-            return false;
-        }
-        left = left - count;
-        i = i + 1;
+    let mut left = lists.numbers.len() / 6;
+    for &count in lists.counts {
+        left = left
+            .checked_sub(count as usize)
+            .ok_or(WriteRefusal::Unequal)?;
     }
-    left == 0
-}
-
-// The number of the triangle that these numbers begin with: 17, 18 or 0.
-fn triangle_number(six: &[i32]) -> u32
-    ensures { result ≡ triangle_number (given_of [] [] [] [] six.now) 0 }
-{
-    let x0 = storing::bits_at(six, 0);
-    let y0 = storing::bits_at(six, 1);
-    let x1 = storing::bits_at(six, 2);
-    let y1 = storing::bits_at(six, 3);
-    let x2 = storing::bits_at(six, 4);
-    let y2 = storing::bits_at(six, 5);
-    judge::triangle_rule(x0, y0, x1, y1, x2, y2)
-}
-
-// 17 and 18 of each triangle in turn. A triangle is cut out before it is read: the part's length is then a constant, and no test of it is left in the compiled code.
-fn triangles(numbers: &[i32]) -> u32
-    ensures { result ≡ first_from (triangle_number (given_of [] [] [] [] numbers.now)) (length numbers.now / 6) 0 }
-{
-    let n = numbers.len() / 6;
-    let mut k: usize = 0;
-    while k < n {
-        let at = 6 * k;
-        let behind = at + 6;
-        let number = triangle_number(&numbers[at..behind]);
-        if number != 0 {
-            return number;
-        }
-        k = k + 1;
+    if left == 0 {
+        Ok(())
+    } else {
+        Err(WriteRefusal::Unequal)
     }
-    0
 }
 
-// 13, 19 or 0, of so many recordings and triangles and a room of so many bytes.
-fn at_last(recordings: usize, triangles: usize, room: usize) -> u32
-    ensures { result ≡ or_else (number_if (ltb 64 recordings) 13) (number_if (ltb room (24 * triangles + 12 * recordings + 12) || ltb 65536 (24 * triangles + 12 * recordings + 12)) 19) }
+// The 32 bits of six numbers, which stand for them.
+fn bits(six: [i32; 6]) -> [u32; 6]
+    ensures { triangle_by result ≡ triangle_in (given_of [] [] [] [] six) 0 }
 {
-    if 64 < recordings {
-        return 13;
+    six.map(|z| z.cast_unsigned())
+}
+
+// The rule of a triangle: 17 before 18.
+fn triangle_rule(six: [i32; 6]) -> Result<(), WriteRefusal>
+    ensures { told result ≡ triangle_rule (triangle_in (given_of [] [] [] [] six) 0) }
+{
+    judge::triangle_rule(bits(six)).map_err(reason)
+}
+
+// 17 and 18 of each triangle in turn. A function of its own in the compiled code too: beside the lists its loop has three registers too few.
+#[inline(never)]
+fn triangles(numbers: &[i32]) -> Result<(), WriteRefusal>
+    ensures { told result ≡ first_from (triangle_number (given_of [] [] [] [] numbers.now)) (length numbers.now / 6) 0 }
+{
+    for six in numbers.as_chunks::<6>().0 {
+        triangle_rule(*six)?;
+    }
+    Ok(())
+}
+
+// 13 and 19, with a room of so many bytes.
+fn at_last(lists: Lists<'_>, room: usize) -> Result<(), WriteRefusal>
+    ensures { told result ≡ or_else (number_if (is_too_many (given lists.entry)) 13) (number_if (has_no_room (given lists.entry) room) 19) }
+{
+    let recordings = lists.ids.len();
+    let triangles = lists.numbers.len() / 6;
+    if MOST_RECORDINGS < recordings {
+        return Err(WriteRefusal::TooMany);
     }
     // With more triangles the file passes 65,536 bytes, and its length need not be computed.
-    if 2730 < triangles {
-        return 19;
+    if MOST_TRIANGLES < triangles {
+        return Err(WriteRefusal::NoRoom);
     }
-    let length = 24 * triangles + 12 * recordings + 12;
-    if room < length {
-        return 19;
+    let length = TRIANGLE * triangles + ENTRY * recordings + TRAILER;
+    if room.min(MOST_BYTES) < length {
+        return Err(WriteRefusal::NoRoom);
     }
-    if 65536 < length {
-        return 19;
-    }
-    0
+    Ok(())
 }
 
-// The number of the first refusal of these lists that applies, with a room of so many bytes; 0 if none does.
+// The first refusal of these lists that applies, with a room of so many bytes.
+// Stays with five slices: so C hands them in (meskelow_write), of any lengths.
 pub fn refusal(
     ids: &[u32],
     counts: &[u32],
@@ -149,24 +184,12 @@ pub fn refusal(
     lasts: &[u8],
     numbers: &[i32],
     room: usize,
-) -> u32
-    ensures { result ≡ refusal_of (given_of ids.now counts.now sets.now lasts.now numbers.now) room }
+) -> Result<(), WriteRefusal>
+    ensures { told result ≡ refusal_of (given_of ids.now counts.now sets.now lasts.now numbers.now) room }
 {
-    let n = ids.len();
-    if is_unequal(n, counts.len(), sets.len(), lasts.len(), numbers.len()) {
-        return 15;
-    }
-    let entry = entries(ids, counts, sets, lasts);
-    if entry != 0 {
-        return entry;
-    }
-    let whole = numbers.len() / 6;
-    if adds_up(counts, whole) {
-        let triangle = triangles(numbers);
-        if triangle != 0 {
-            return triangle;
-        }
-        return at_last(n, whole, room);
-    }
-    15
+    let lists = lists_of(ids, counts, sets, lasts, numbers)?;
+    entries(lists)?;
+    adds_up(lists)?;
+    triangles(lists.numbers)?;
+    at_last(lists, room)
 }

@@ -1,31 +1,31 @@
 -- A corner that is asked for: by an answer that keeps the promise it is refused, or its place is beyond the ring, or it is the ring's corner at that place. Assumes nothing.
-use mathlib.Core.Path.{◌≡◌, refl, sym, ap, ap₂, subst, ◌∙◌}
+use mathlib.Core.Path.{◌≡◌, refl, sym, ap, subst, ◌∙◌}
 use mathlib.Core.Logic.{inl}
-use mathlib.Core.Bool.{Bool, true}
 use mathlib.Core.List.{List, [], ◌∷◌}
-use Prim.Native.Nat.{ℕ, ◌*◌, ◌<◌, ◌≤◌}
+use Prim.Native.Nat.{ℕ, ◌<◌, ◌≤◌}
 use native.Mathlib.Omega.{arith}
 use lib.Ieee.{Float}
-use lib.ListN.{length, take}
+use lib.ListN.{length}
 use borrow.Author.Tests.{eq-eqb, ne_eqb, lt-ltb, le-ltb}
 use Rattle.triangles.specs.declared.Answer.{Answer}
 use Rattle.triangles.specs.declared.Corner.{Corner}
-use Rattle.triangles.specs.Pair.{vertex_signs}
-use Rattle.triangles.specs.Answers.{written}
 use Rattle.triangles.specs.Promise.{PairPromise}
 use Rattle.triangles.specs.Decision.{enough}
 use Rattle.corners.specs.declared.Told.{Told}
 use Rattle.corners.specs.Corners.{told, no_corner, corner_at, told_at}
 use Rattle.corners.specs.Promise.{CornerPromise}
-use Rattle.lines.specs.declared.Params.{Params}
-use Rattle.front.specs.Front.{beyond_by}
-use Rattle.routine.specs.declared.Start.{Start}
-use Rattle.routine.specs.declared.Found.{Found}
-use Rattle.routine.specs.Code.{Starts, Finds, spot_at, signs_from, settled_by}
+use Rattle.front.specs.Front.{number}
+use Rattle.front.specs.declared.Refusal.{Refusal}
+use Rattle.front.specs.declared.Refusal.TheVariants.{Lengths, NotFinite, FlatV, Overflow, FlatU}
+use Rattle.front.specs.declared.Start.{Start}
+use Rattle.routine.specs.declared.finding.Found.{Found}
+use Rattle.std.specs.Array.{IsWholeChunk}
+use Rattle.routine.specs.Code.{Starts, outcome_refused, found_in, signs_from}
 use Rattle.routine.proofs.Edges.{signs_are}
 use Rattle.routine.proofs.Crossings.{params}
-use Rattle.routine.proofs.Entry.{lengths_kept, beyond_kept}
-use Rattle.routine.proofs.Kept.{Keeps, settled_Keeps, found_kept}
+use Rattle.routine.proofs.Entry.{lengths_kept}
+use Rattle.routine.proofs.Kept.{Keeps}
+use Rattle.routine.proofs.Laid.{spot_at}
 
 -- ---- by an answer in a room of twelve values
 module _ (l : List Float) (place : ℕ) {a : Answer} {after : List Float} (h : PairPromise l enough a after) where
@@ -42,43 +42,36 @@ module _ (l : List Float) (place : ℕ) {a : Answer} {after : List Float} (h : P
   corner_told z b = rw (sym h.result_is, eq-eqb a.number 0 z, lt-ltb place a.n b) refl
 
 -- ---- as the code comes to it
-module _ (l : List Float) (place : ℕ) where
-  -- a list of another length
-  pub corner_short : {r : Told} → (length l ≡ 12 → ⊥) → r ≡ no_corner 1 → CornerPromise l place r
-  corner_short n e = record { result_is = e ∙ sym (corner_refused l place (lengths_kept l enough refl (inl n)) (λ z. omega (arith, z))) }
+pub corner_short : (l : List Float) (place : ℕ) {r : Told} {k : ℕ} → (length l ≡ 12 → ⊥) → k ≡ 1 → r ≡ no_corner k → CornerPromise l place r
+corner_short l place n hk e = record { result_is = e ∙ (ap no_corner hk ∙ sym (corner_refused l place (lengths_kept l enough refl (inl n)) (λ z. omega (arith, z)))) }
 
-  module _ (s : Start) (n : length l ≡ 12) (named : Starts l s) where
-    -- a pair beyond a line
-    pub corner_far : {r : Told} {b : Bool} → b ≡ beyond_by s.d s.e s.p s.q s.r → b ≡ true → r ≡ no_corner 6 → CornerPromise l place r
-    corner_far hb h e = record { result_is = e ∙ sym (corner_beyond l place (beyond_kept l s.d s.e s.p s.q s.r n named enough (omega arith) hb h) refl (omega arith)) }
+numbered : (k : Refusal) → number k ≡ 0 → ⊥
+numbered Lengths h = omega (arith, h)
+numbered NotFinite h = omega (arith, h)
+numbered FlatV h = omega (arith, h)
+numbered Overflow h = omega (arith, h)
+numbered FlatU h = omega (arith, h)
 
-    module _ (f : Found) (finds : Finds (settled_by l s.d s.e s.p s.q s.r) f) where
-      keeps : Keeps l enough (settled_by l s.d s.e s.p s.q s.r)
-      keeps = settled_Keeps l enough s.d s.e s.p s.q s.r n (omega arith) named
+-- why nothing can be told
+pub found_refused : (l : List Float) (place : ℕ) (w : Refusal) {r : Told} {k : ℕ} → Keeps l enough (outcome_refused (number w)) → k ≡ number w → r ≡ no_corner k → CornerPromise l place r
+found_refused l place w h hk e = record { result_is = e ∙ (ap no_corner hk ∙ sym (corner_refused l place h.promise (numbered w))) }
 
-      kept : PairPromise l enough f.answer (written (take (2 * f.answer.n) f.xy) enough)
-      kept = found_kept l enough finds keeps refl
+-- where there is no ring there is no such corner
+pub found_none : (l : List Float) (place : ℕ) {r : Told} → Keeps l enough (outcome_refused 0) → r ≡ no_corner 6 → CornerPromise l place r
+found_none l place h e = record { result_is = e ∙ sym (corner_beyond l place h.promise refl (omega arith)) }
 
-      pub found_refused : {r : Told} → (f.answer.number ≡ 0 → ⊥) → r ≡ no_corner f.answer.number → CornerPromise l place r
-      found_refused z e = record { result_is = e ∙ sym (corner_refused l place kept z) }
+module _ (l : List Float) (place : ℕ) (f : Found) (h : Keeps l enough (found_in f)) where
+  pub found_beyond : {r : Told} → f.answer.n ≤ place → r ≡ no_corner 6 → CornerPromise l place r
+  found_beyond b e = record { result_is = e ∙ sym (corner_beyond l place h.promise f.answered b) }
 
-      pub found_beyond : {r : Told} → f.answer.number ≡ 0 → f.answer.n ≤ place → r ≡ no_corner 6 → CornerPromise l place r
-      found_beyond z b e = record { result_is = e ∙ sym (corner_beyond l place kept z b) }
-
-      abbrev ps : List Params
-      ps = s.p ∷ s.q ∷ s.r ∷ []
-
-      signs_named : signs_from ps ≡ vertex_signs l
-      signs_named = rw (named.2, named.3, named.4) (sym (signs_are l))
-
-      params_named : ps ≡ params l
-      params_named = rw (named.2, named.3, named.4) refl
-
-      ring_corner : f.answer.number ≡ 0 → place < f.answer.n → (spot_at l ps (signs_from ps) f.places place).corner ≡ corner_at l place
-      ring_corner z b =
-          ap₂ (λ ps ss. (spot_at l ps ss f.places place).corner) params_named signs_named
-          ∙ (ap (λ ps. (spot_at l (params l) (vertex_signs l) ps place).corner) finds.places_are
-          ∙ keeps.place (ap (λ a. a.number) (sym finds.answer_is) ∙ z) place (subst (λ a. place < a.n) finds.answer_is b))
-
-      pub found_told : {r : Told} → f.answer.number ≡ 0 → place < f.answer.n → {c : Corner} → c ≡ (spot_at l ps (signs_from ps) f.places place).corner → r ≡ told c → CornerPromise l place r
-      found_told z b hc e = record { result_is = e ∙ (ap told (hc ∙ ring_corner z b) ∙ sym (corner_told l place kept z b)) }
+  pub found_told : {t : List Float} {s : Start} {r : Told} → IsWholeChunk l t 12 → Starts t s → place < f.answer.n → {c : Corner} → c ≡ (spot_at t (s.p ∷ s.q ∷ s.r ∷ []) (signs_from (s.p ∷ s.q ∷ s.r ∷ [])) f.places place).corner → r ≡ told c → CornerPromise l place r
+  found_told {t} {s} ht named b hc e =
+      let own = subst (λ v. Starts v s) ht.same named in
+      record {
+        result_is =
+            e ∙ (ap told (hc
+            ∙ (ap (λ v. (spot_at v (s.p ∷ s.q ∷ s.r ∷ []) (signs_from (s.p ∷ s.q ∷ s.r ∷ [])) f.places place).corner) ht.same
+            ∙ (rw (own.2, own.3, own.4) (ap (λ ss. (spot_at l (params l) ss f.places place).corner) (sym (signs_are l)))
+            ∙ h.place f.answered place b)))
+            ∙ sym (corner_told l place h.promise f.answered b));
+      }

@@ -6,8 +6,8 @@ pub mod Edges
 pub mod Crossings
 pub mod Laid
 pub mod Entry
-pub mod Steps
 pub mod Kept
 pub mod Shapes
 pub mod Decisions
 pub mod Asked
+pub mod Six

@@ -1,103 +1,99 @@
 // The routine: from twelve values to the answer of two triangles, with its corners in a lent room; to one of these corners; to what is decided of the pair.
 #![tactic(auto)]
 
+mod finding;
 mod spots;
 
-ghost use Rattle.std.specs.Prelude.{◌≡◌, ◌*◌, ◌≤◌, length, take};
+ghost use Rattle.std.specs.Prelude.{◌≡◌, None, ◌≤◌, length, take};
 ghost use Rattle.walk.specs.Code.{flags_and_ring};
 ghost use Rattle.triangles.specs.Answers.{refusal, written};
 ghost use Rattle.triangles.specs.Promise.{PairPromise};
-ghost use Rattle.triangles.specs.Decision.{Decided, SaidOf};
+ghost use Rattle.triangles.specs.Decision.{decided, Decided, SaidOf};
 ghost use Rattle.corners.specs.Promise.{CornerPromise};
-ghost use Rattle.routine.specs.Code.{Finds, outcome_refused, placed_as, ordered_by, settled_by, Starts, rules_by};
+ghost use Rattle.shapes.specs.Shapes.{twelve};
+ghost use Rattle.routine.specs.Code.{outcome_in, values_of, placed_as, ordered_by, settled_by, found_by, Starts, start_by, rules_by};
 
-use spots::{area_of, corner_in, corners_of, position_at};
+use finding::Found;
+use front::{Refusal, Start};
+use spots::{area_of, corner_in, corners_of};
 
-// A number, and zeros: a refusal, or with 0 the answer of a pair without a ring.
-fn refused(k: u32) -> triangles::Answer
-    ensures { result ≡ refusal k }
+// The refusal of a place at which the ring has no corner.
+const NO_SUCH_CORNER: u32 = 6;
+
+// An answer without a ring: a refusal's number, or 0, and zeros.
+fn without_ring(number: u32) -> triangles::Answer
+    ensures { result ≡ refusal number }
 {
     triangles::Answer {
-        number: k,
-        n: 0,
-        area: 0.0,
-        u_in_v: [false; 3],
-        v_in_u: [false; 3],
-        neighbour: [false; 3],
+        number,
+        ..triangles::Answer::default()
     }
 }
 
-// The values of n corners, to the front of the room.
-fn write(room: &mut [f64], xy: [f64; 12], n: usize)
-    requires { (n ≤ 6) × (12 ≤ length room.old) }
-    ensures { room.new ≡ written (take (2 * n) xy) room.old }
-{
-    let m = 2 * n;
-    let mut i = 0;
-    while i < m {
-        room[i] = xy[i];
-        i += 1;
-    }
-}
-
-// What is found of two triangles: the answer, and its ring's n corners, by place and by position; what is beyond n has no meaning.
-#[derive(Clone, Copy)]
-struct Found {
-    answer: triangles::Answer,
-    places: [walk::PlaceCode; 6],
-    xy: [f64; 12],
-}
-
-// A number, and no ring.
-fn nothing(k: u32) -> Found
-    ensures { Finds (outcome_refused k) result }
-{
-    let answer = refused(k);
-    Found {
-        answer,
-        places: [walk::PlaceCode { code: 0 }; 6],
-        xy: [0.0; 12],
+impl Found {
+    // The values of the ring's corners, to the front of the room.
+    fn write(&self, room: &mut [f64])
+        requires { 12 ≤ length room.old }
+        ensures { room.new ≡ written (values_of (take self.now.answer.n self.now.corners)) room.old }
+    {
+        let corners = &self.corners[..self.answer.n as usize];
+        for (i, corner) in corners.iter().enumerate() {
+            room[2 * i] = corner.x;
+            room[2 * i + 1] = corner.y;
+        }
     }
 }
 
 // From the orders on: ring, corners and area.
+// Stays with six parameters: parameters and signs go by value, each as they are, which is their form (docs/PROMISES.md).
+#[tactic(auto, using(crate::proofs::Six::ring_fits), unfolding(crate::specs::Code::placed_as))]
 fn placed(
-    values: &[f64],
+    values: &[f64; 12],
     params: [lines::Params; 3],
     signs: [[bool; 3]; 3],
     entry: u16,
     before: [u16; 3],
-) -> Found
-    requires { length values.now ≡ 12 }
-    ensures { Finds (placed_as values.now params signs (flags_and_ring signs entry before)) result }
+    found: &mut Option<Found>,
+) -> Result<(), Refusal>
+    ensures { outcome_in result found.new ≡ placed_as values.now params signs (flags_and_ring signs entry before) }
 {
-    let w = walk::flags_and_ring(signs, entry, before);
-    let places = w.places;
-    let n = w.n;
-    let c = corners_of(values, params, signs, places, n);
-    let xy = c.xy;
-    let area = area_of(xy, n);
+    let ring = walk::flags_and_ring(signs, entry, before);
+    // Stays in variables: straight from the fields was tried, and the borrow checker did not cover this function then.
+    let places = ring.places;
+    let u_in_v = ring.u_in_v;
+    let v_in_u = ring.v_in_u;
+    let neighbour = ring.neighbour;
+    let c = corners_of(values, params, signs, places, ring.n);
+    let area = area_of(&c.at[..ring.n]);
     if c.fine & floats::is_finite(area) {
-        let u_in_v = w.u_in_v;
-        let v_in_u = w.v_in_u;
-        let neighbour = w.neighbour;
         let answer = triangles::Answer {
             number: 0,
-            n: n as u32,
+            n: ring.n as u32,
             area,
             u_in_v,
             v_in_u,
             neighbour,
         };
-        return Found { answer, places, xy };
+        *found = Some(Found {
+            answer,
+            places,
+            corners: c.at,
+        });
+        return Ok(());
     }
-    nothing(4)
+    Err(Refusal::Overflow)
 }
 
 // From the parameters on: the table tells which lines U's edges cross, and the orders along them are decided, all three.
-fn ordered(values: &[f64], p: lines::Params, q: lines::Params, r: lines::Params) -> Found
-    requires { length values.now ≡ 12 }
-    ensures { Finds (ordered_by values.now p q r) result }
+#[tactic(auto, unfolding(crate::specs::Code::ordered_by))]
+fn ordered(
+    values: &[f64; 12],
+    p: lines::Params,
+    q: lines::Params,
+    r: lines::Params,
+    found: &mut Option<Found>,
+) -> Result<(), Refusal>
+    ensures { outcome_in result found.new ≡ ordered_by values.now p q r }
 {
     let s = lines::signs_of(p);
     let t = lines::signs_of(q);
@@ -108,111 +104,114 @@ fn ordered(values: &[f64], p: lines::Params, q: lines::Params, r: lines::Params)
     let b = edges::order_of(q, r, t, table::crossed_by(entry, 1));
     let c = edges::order_of(p, r, s, table::crossed_by(entry, 2));
     if a.fine & (b.fine & c.fine) {
-        let x = a.before;
-        let y = b.before;
-        let z = c.before;
-        return placed(values, [p, q, r], signs, entry, [x, y, z]);
+        return placed(
+            values,
+            [p, q, r],
+            signs,
+            entry,
+            [a.before, b.before, c.before],
+            found,
+        );
     }
-    nothing(4)
+    Err(Refusal::Overflow)
 }
 
 // From d, e and the parameters on.
-fn settled(
-    values: &[f64],
-    d: f64,
-    e: f64,
-    p: lines::Params,
-    q: lines::Params,
-    r: lines::Params,
-) -> Found
-    requires { length values.now ≡ 12 }
-    ensures { Finds (settled_by values.now d e p q r) result }
+#[tactic(auto, unfolding(crate::specs::Code::settled_by))]
+fn settled(values: &[f64; 12], start: Start, found: &mut Option<Found>) -> Result<(), Refusal>
+    ensures { outcome_in result found.new ≡ settled_by values.now start.d start.e start.p start.q start.r }
 {
-    let k = front::number_of(values, d, e, p, q, r);
-    if k == 0 {
-        return ordered(values, p, q, r);
+    start.judged(values)?;
+    ordered(values, start.p, start.q, start.r, found)
+}
+
+// What is found, where nothing was; it stays so where all of U lies beyond a line, which is asked before anything else. Such a pair costs no call, as this
+// stands inline in all callers.
+#[inline(always)]
+#[tactic(auto, unfolding(crate::specs::Code::found_by))]
+fn find(values: &[f64; 12], start: Start, found: &mut Option<Found>) -> Result<(), Refusal>
+    requires { found.old ≡ None }
+    ensures { outcome_in result found.new ≡ found_by values.now start.d start.e start.p start.q start.r }
+{
+    if start.beyond() {
+        return Ok(());
     }
-    nothing(k)
+    settled(values, start, found)
 }
 
-// What every rule starts from: d, e, and the parameters of U0, U1 and U2.
-#[derive(Clone, Copy)]
-struct Start {
-    d: f64,
-    e: f64,
-    p: lines::Params,
-    q: lines::Params,
-    r: lines::Params,
-}
-
-// Of two triangles, U0x, U0y, .. V2y.
-fn start_of(values: &[f64]) -> Start
-    requires { length values.now ≡ 12 }
+// What every rule starts from, of two triangles.
+fn start_of(values: &[f64; 12]) -> Start
     ensures { Starts values.now result }
 {
-    let u0 = position_at(values, 0);
-    let u1 = position_at(values, 1);
-    let u2 = position_at(values, 2);
-    let v0 = position_at(values, 3);
-    let v1 = position_at(values, 4);
-    let v2 = position_at(values, 5);
-    let d = floats::cross_from(v0, v1, v2);
-    let e = floats::cross_from(u0, u1, u2);
-    let p = lines::params_of(d, v0, v1, v2, u0);
-    let q = lines::params_of(d, v0, v1, v2, u1);
-    let r = lines::params_of(d, v0, v1, v2, u2);
-    Start { d, e, p, q, r }
+    let (u, v) = front::pair_of(values);
+    let d = floats::cross_from(v.a, v.b, v.c);
+    Start {
+        d,
+        e: floats::cross_from(u.a, u.b, u.c),
+        p: lines::params_of(d, v, u.a),
+        q: lines::params_of(d, v, u.b),
+        r: lines::params_of(d, v, u.c),
+    }
 }
 
 // Two triangles, U0x, U0y, .. V2y: the answer, with the ring's corners at the front of the room, or a refusal, with the room as it was.
 pub fn intersect(values: &[f64], room: &mut [f64]) -> triangles::Answer
     ensures { PairPromise values.now room.old result room.new }
 {
-    if values.len() != 12 {
-        return refused(1);
-    }
+    let Some(values) = values.as_array::<12>() else {
+        return without_ring(Refusal::Lengths.number());
+    };
     if room.len() < 12 {
-        return refused(1);
+        return without_ring(Refusal::Lengths.number());
     }
-    let s = start_of(values);
-    let p = s.p;
-    let q = s.q;
-    let r = s.r;
-    if front::beyond(s.d, s.e, p, q, r) {
-        return refused(0);
+    let mut found = None;
+    match find(values, start_of(values), &mut found) {
+        Ok(()) => match &found {
+            Some(f) => {
+                f.write(room);
+                f.answer
+            }
+            None => without_ring(0),
+        },
+        Err(k) => without_ring(k.number()),
     }
-    let f = settled(values, s.d, s.e, p, q, r);
-    let answer = f.answer;
-    let xy = f.xy;
-    write(room, xy, answer.n as usize);
-    answer
 }
 
 // Two triangles, U0x, U0y, .. V2y, and a place in their ring: the corner that stands there, or a refusal's number with zeros.
 pub fn corner_at(values: &[f64], place: usize) -> corners::Told
     ensures { CornerPromise values.now place result }
 {
-    if values.len() != 12 {
-        return corners::no_corner(1);
-    }
+    let Some(values) = values.as_array::<12>() else {
+        return corners::no_corner(Refusal::Lengths.number());
+    };
     let s = start_of(values);
-    let p = s.p;
-    let q = s.q;
-    let r = s.r;
-    if front::beyond(s.d, s.e, p, q, r) {
-        // No row applies there, and there is no ring.
-        return corners::no_corner(6);
+    let mut found = None;
+    match find(values, s, &mut found) {
+        Ok(()) => {
+            let Some(f) = &found else {
+                return corners::no_corner(NO_SUCH_CORNER);
+            };
+            if place < f.answer.n as usize {
+                return corners::told_of(corner_in(values, [s.p, s.q, s.r], f.places[place]));
+            }
+            corners::no_corner(NO_SUCH_CORNER)
+        }
+        Err(k) => corners::no_corner(k.number()),
     }
-    let f = settled(values, s.d, s.e, p, q, r);
-    let answer = f.answer;
-    if answer.number != 0 {
-        return corners::no_corner(answer.number);
+}
+
+// What is decided of a pair, from what every rule starts from.
+fn decided(values: &[f64; 12], start: Start) -> triangles::Decision
+    ensures { result ≡ decided (found_by values.now start.d start.e start.p start.q start.r).answer }
+{
+    let mut found = None;
+    match find(values, start, &mut found) {
+        Ok(()) => match &found {
+            Some(f) => decisions::decision_from(f.answer),
+            None => triangles::Decision::Apart,
+        },
+        Err(k) => triangles::Decision::Refused(k.number()),
     }
-    if place < (answer.n as usize) {
-        let places = f.places;
-        return corners::told_of(corner_in(values, [p, q, r], places[place]));
-    }
-    corners::no_corner(6)
 }
 
 // Two triangles, U0x, U0y, .. V2y: what is decided of them. Those whose boxes share no point are apart; any others are given to the triangle rules.
@@ -222,19 +221,10 @@ pub fn decision(values: &[f64]) -> triangles::Decision
     if front::is_far(values) {
         return triangles::Decision::Apart;
     }
-    if values.len() != 12 {
-        return triangles::Decision::Refused(1);
-    }
-    let s = start_of(values);
-    let p = s.p;
-    let q = s.q;
-    let r = s.r;
-    if front::beyond(s.d, s.e, p, q, r) {
-        return triangles::Decision::Apart;
-    }
-    let f = settled(values, s.d, s.e, p, q, r);
-    let answer = f.answer;
-    decisions::decision_from(answer)
+    let Some(values) = values.as_array::<12>() else {
+        return triangles::Decision::Refused(Refusal::Lengths.number());
+    };
+    decided(values, start_of(values))
 }
 
 // The same in numbers: 0 with the kind and the area, or a refusal's number with zeros.
@@ -244,26 +234,28 @@ pub fn decide(values: &[f64]) -> triangles::Said
     decisions::said_of(decision(values))
 }
 
+// What every rule starts from, of two shapes.
+fn start_by(u: shapes::Shape, v: shapes::Shape) -> Start
+    ensures { result ≡ start_by u v }
+{
+    Start {
+        d: v.cross,
+        e: u.cross,
+        p: lines::params_by(v.cross, v.v0, v.a, v.b, u.v0),
+        q: lines::params_by(v.cross, v.v0, v.a, v.b, u.v1),
+        r: lines::params_by(v.cross, v.v0, v.a, v.b, u.v2),
+    }
+}
+
 // What the triangle rules decide of two shapes, by their sides and crosses as they stand. Where each was made ready by `shapes::shape_of` it is what the rules
 // decide of their twelve values. Boxes are not looked at: the caller has.
 pub fn by_rules(u: shapes::Shape, v: shapes::Shape) -> triangles::Decision
     ensures { result ≡ rules_by u v }
 {
-    let d = v.cross;
-    let e = u.cross;
-    let v0 = floats::Position { x: v.x0, y: v.y0 };
-    let a = floats::Position { x: v.ax, y: v.ay };
-    let b = floats::Position { x: v.bx, y: v.by };
-    let p = lines::params_by(d, v0, a, b, floats::Position { x: u.x0, y: u.y0 });
-    let q = lines::params_by(d, v0, a, b, floats::Position { x: u.x1, y: u.y1 });
-    let r = lines::params_by(d, v0, a, b, floats::Position { x: u.x2, y: u.y2 });
-    if front::beyond(d, e, p, q, r) {
-        return triangles::Decision::Apart;
-    }
     let values = [
-        u.x0, u.y0, u.x1, u.y1, u.x2, u.y2, v.x0, v.y0, v.x1, v.y1, v.x2, v.y2,
+        u.v0.x, u.v0.y, u.v1.x, u.v1.y, u.v2.x, u.v2.y, v.v0.x, v.v0.y, v.v1.x, v.v1.y, v.v2.x, v
+            .v2
+            .y,
     ];
-    let f = settled(&values, d, e, p, q, r);
-    let answer = f.answer;
-    decisions::decision_from(answer)
+    decided(&values, start_by(u, v))
 }

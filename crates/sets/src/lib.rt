@@ -1,4 +1,5 @@
 // The sets of recordings, by the numbers that they are stored with: which is test, which are training, and which is retired; and the last bytes of their entries: which edition of the leak rule one names, and which may stand beside which set.
+// Stays two numbers: an entry can be stored with any set and any last byte, and refusal 14 speaks of just those (`is_bad_entry`).
 #![tactic(auto)]
 
 ghost use Rattle.std.specs.Prelude.{◌≡◌};

@@ -5,41 +5,28 @@ ghost use Rattle.std.specs.Prelude.{◌≡◌};
 ghost use Rattle.shapes.specs.Shapes.{shape_of};
 
 // A triangle made ready for every pair that it stands in: its vertices, the sides a and b from the first vertex to the second and the third, and their cross.
-#[derive(Clone, Copy)]
+#[derive(Clone, Copy, Debug, PartialEq)]
 pub struct Shape {
-    pub x0: f64,
-    pub y0: f64,
-    pub x1: f64,
-    pub y1: f64,
-    pub x2: f64,
-    pub y2: f64,
-    pub ax: f64,
-    pub ay: f64,
-    pub bx: f64,
-    pub by: f64,
+    pub v0: floats::Position,
+    pub v1: floats::Position,
+    pub v2: floats::Position,
+    pub a: floats::Position,
+    pub b: floats::Position,
     pub cross: f64,
 }
 
-// The triangle of these vertices, made ready.
-pub fn shape_of(x0: f64, y0: f64, x1: f64, y1: f64, x2: f64, y2: f64) -> Shape
-    ensures { result ≡ shape_of x0 y0 x1 y1 x2 y2 }
+// The triangle, made ready.
+pub fn shape_of(t: floats::Triangle) -> Shape
+    ensures { result ≡ shape_of t.a.x t.a.y t.b.x t.b.y t.c.x t.c.y }
 {
-    let ax = x1 - x0;
-    let ay = y1 - y0;
-    let bx = x2 - x0;
-    let by = y2 - y0;
-    let cross = floats::cross_of(ax, ay, bx, by);
+    let a = t.b - t.a;
+    let b = t.c - t.a;
     Shape {
-        x0,
-        y0,
-        x1,
-        y1,
-        x2,
-        y2,
-        ax,
-        ay,
-        bx,
-        by,
-        cross,
+        v0: t.a,
+        v1: t.b,
+        v2: t.c,
+        a,
+        b,
+        cross: floats::cross_of(a.x, a.y, b.x, b.y),
     }
 }

@@ -1,2 +1,3 @@
 pub mod Polygons
 pub mod Searched
+pub mod Answered

@@ -1,122 +1,113 @@
--- The recording that has an id is looked for from the first on; what is left to look at decides. And what is answered at each end of the writer. Assumes nothing.
-use Prim.Native.Nat.{ℕ, suc, ◌+◌, ◌-◌, ◌*◌, ◌<◌, ◌≤◌}
-use mathlib.Core.Path.{◌≡◌, refl, sym, ap, subst, ◌∙◌}
-use mathlib.Core.List.{List, []}
-use mathlib.Core.Bool.{Bool, true, false}
+-- The entry that has an id is found among the table's chunks as it is among the entries, and the chunks of a recording's part are its triangles. Assumes nothing.
+use Prim.Native.Nat.{ℕ, zero, suc, ◌+◌, ◌*◌, ◌/◌, ◌<◌, ◌≤◌}
+use mathlib.Core.Path.{◌≡◌, refl, sym, ap, ap₂, ◌∙◌}
+use mathlib.Core.List.{List, ◌∷◌, map}
+use mathlib.Core.Bool.{Bool, true, false, cond}
 use native.Mathlib.Omega.{arith}
-use lib.Dec.{ltb}
-use lib.ListN.{length}
-use borrow.Author.Tests.{eq-eqb, ne_eqb, ltb-true, ltb-false}
-use Rattle.text.specs.Room.{Put}
-use Rattle.text.specs.Saying.{WrittenAndRoom}
-use Rattle.text.specs.declared.Written.{Written}
-use Rattle.text.proofs.Room.{whole_or_nothing}
+use lib.Dec.{eqb, ltb}
+use lib.ListN.{length, take, drop, length-drop}
+use borrow.Author.Tests.{lt-ltb, le-ltb}
+use Rattle.std.specs.Simd.{first_chunks}
+use Rattle.std.specs.List.{find}
+use Rattle.std.proofs.Common.{Option, Some, None}
+use Rattle.std.proofs.lemmas.List.{drop-drop, length-take-le}
 use Rattle.layout.specs.declared.Entry.{Entry}
-use Rattle.layout.specs.declared.Verdict.{Verdict}
 use Rattle.layout.specs.Layout.{Layout}
-use Rattle.layout.specs.Verdict.{number_at, verdict}
-use Rattle.layout.proofs.Returned.{is_good}
+use Rattle.layout.specs.Parts.{table_place, count_of, entry_from, entry_at, triangle_by, triangle_from}
+use Rattle.layout.specs.Bytes.{six_of, i32_at}
+use Rattle.layout.specs.Recordings.{bytes_of}
+use Rattle.layout.proofs.Returned.{is_good, there_is}
 use Rattle.layout.proofs.Inside.{parts_inside}
-use Rattle.chart.specs.Words.{collection_text, text_of}
-use Rattle.chart.specs.Showing.{no_text, no_such_id, too_short, shown_in, shown_of}
-use Rattle.chart.specs.Promise.{ShowPromise}
-use Rattle.chart.proofs.Returned.{by_file_lem, by_id_lem, past_id, in_short, in_whole}
-use Rattle.layout.specs.Bytes.{u32_at}
-use Rattle.layout.specs.Parts.{table_place, count_of, entry_place, entry_from, entry_at}
-use Rattle.chart.specs.Recorded.{triangles_from, triangles_in, searched, number_with, recording_text}
+use Rattle.layout.proofs.Slices.{entry_part, triangle_part}
+use Rattle.footprint.specs.Contents.{entries_in, entry_in}
+use Rattle.chart.specs.Recorded.{searched, number_with, triangles_from, recording_text}
+use Rattle.chart.specs.Words.{triangle_text, collection_text, text_of}
+use Rattle.chart.proofs.Recorded.{triangles_of_part}
+use Rattle.showing.specs.Code.{texts_of}
+
+-- ---- the entry that has an id
+first_entry : (file : List ℕ) (k : ℕ) → entry_from (take 12 (drop (table_place file + 12 * k) file)) 0 ≡ entry_at file k
+unfolding entry_at
+first_entry file k = entry_part file (table_place file + 12 * k) 12 0 (omega arith) ∙ ap (entry_from file) (none (table_place file + 12 * k))
+  where
+    none : (m : ℕ) → m + 0 ≡ m
+    none m = omega arith
 
 module _ (file : List ℕ) (id : ℕ) where
-  -- the id of an entry is read at its place
-  pub id_at : (k : ℕ) {table v : ℕ} → table ≡ table_place file → v ≡ u32_at file (table + 12 * k) → (entry_at file k).id ≡ v
-  unfolding entry_at entry_from entry_place
-  id_at k {table} t e = sym (e ∙ ap (λ p. u32_at file (p + 12 * k)) t)
+  -- among the entries of these bytes
+  found_in : List (List ℕ) → Option Entry
+  found_in entries = find (λ (e : Entry). eqb e.id id) (map (λ bytes. entry_from bytes 0) entries)
 
-  one_more : (n k : ℕ) → k < n → n - k ≡ suc (n - (k + 1))
-  one_more n k h = omega (arith, h)
+  -- entry k, of the first so many
+  below : ℕ → ℕ → Option Entry
+  below many k = cond (ltb k many) (Some (entry_at file k)) None
 
-  next : (k : ℕ) → suc k ≡ k + 1
-  next k = omega arith
-
-  pub from_first : (n : ℕ) → n ≡ count_of file → searched file id (n - 0) 0 ≡ number_with file id
-  unfolding number_with
-  from_first n e = ap (λ m. searched file id m 0) (none n ∙ e)
+  -- among n entries, from entry k on
+  found_from : (n k : ℕ) → found_in (first_chunks 12 n (drop (table_place file + 12 * k) file)) ≡ below (k + n) (searched file id n k)
+  unfolding found_in below searched
+  found_from zero k = rw (le-ltb k (k + 0) (omega arith)) refl
+  found_from (suc n) k =
+      ap₂ (λ (e : Entry) rest. cond (eqb e.id id) (Some e) (found_in (first_chunks 12 n rest))) (first_entry file k) (drop-drop 12 (table_place file + 12 * k) file)
+      ∙ go (eqb (entry_at file k).id id) (ap (λ m. found_in (first_chunks 12 n (drop m file))) (more (table_place file) k) ∙ found_from n (suc k))
     where
-      none : (n : ℕ) → n - 0 ≡ n
-      none n = omega arith
+      more : (t k : ℕ) → t + 12 * k + 12 ≡ t + 12 * suc k
+      more t k = omega arith
 
-  pub here : (n k : ℕ) → k < n → (entry_at file k).id ≡ id → searched file id (n - k) k ≡ k
-  unfolding searched
-  here n k h e = ap (λ m. searched file id m k) (one_more n k h) ∙ rw (eq-eqb (entry_at file k).id id e) refl
-
-  pub not_here : (n k : ℕ) → k < n → ((entry_at file k).id ≡ id → ⊥) → searched file id (n - k) k ≡ searched file id (n - (k + 1)) (k + 1)
-  unfolding searched
-  not_here n k h e = ap (λ m. searched file id m k) (one_more n k h) ∙ (rw (ne_eqb (entry_at file k).id id e) refl ∙ ap (searched file id (n - (k + 1))) (next k))
-
-  pub nowhere : (n k : ℕ) → n ≤ k → searched file id (n - k) k ≡ k
-  unfolding searched
-  nowhere n k h = ap (λ m. searched file id m k) (none n k h)
-    where
-      none : (n k : ℕ) → n ≤ k → n - k ≡ 0
-      none n k h = omega (arith, h)
-
--- ---- what is answered: the file's own refusal, 21, 20, or the text
-module _ (file : List ℕ) (id : ℕ) (room : List ℕ) where
-  answers : {w : WrittenAndRoom} {r : Written} {after : List ℕ} → shown_of file id room ≡ w → r ≡ w.result → after ≡ w.room → ShowPromise file id room r after
-  answers e f g = record { result_is = f ∙ sym (ap (λ v. v.result) e); after_is = g ∙ sym (ap (λ v. v.room) e) }
-
-  pub file_refused : {v : Verdict} {r : Written} → v ≡ verdict file → (v.number ≡ 0 → ⊥) → r ≡ (no_text [] (number_at v.number v.place)).result → ShowPromise file id room r room
-  file_refused {v} h n e = answers (by_file_lem file id room (λ z. n (ap (λ (x : Verdict). x.number) h ∙ z))) (e ∙ ap (λ (x : Verdict). (no_text [] x).result) h) refl
-
-  module _ (good : Layout file) {k : ℕ} (found : k ≡ number_with file id) where
-    pub no_id : {r : Written} → count_of file ≤ k → r ≡ (no_text [] no_such_id).result → ShowPromise file id room r room
-    no_id h e = answers (by_id_lem file id room (is_good file good) (subst (λ m. count_of file ≤ m) found h)) e refl
-
-    module _ (h : k < count_of file) {after : List ℕ} {size : ℕ} (put : Put room 0 (recording_text file k) after size) where
-      is_shown : shown_of file id room ≡ shown_in room (recording_text file k)
-      is_shown = past_id file id room (is_good file good) (subst (λ m. m < count_of file) found h) ∙ ap (λ m. shown_in room (recording_text file m)) (sym found)
-
-      -- no text is empty
-      some : 0 < length (recording_text file k)
-      unfolding recording_text text_of collection_text
-      some = omega arith
-
-      pub too_short_lem : {r : Written} → size ≡ 0 → r ≡ (no_text [] too_short).result → ShowPromise file id room r after
-      too_short_lem {r} z e = go (ltb (length room) (length (recording_text file k))) refl
+      go : (b : Bool) {o : Option Entry} → o ≡ below (suc k + n) (searched file id n (suc k)) → cond b (Some (entry_at file k)) o ≡ below (k + suc n) (cond b k (searched file id n (suc k)))
+      go true h = sym (ap (λ (t : Bool). cond t (Some (entry_at file k)) None) (lt-ltb k (k + suc n) (omega arith)))
+      go false h = h ∙ ap (λ m. below m (searched file id n (suc k))) (one k n)
         where
-          go : (b : Bool) → ltb (length room) (length (recording_text file k)) ≡ b → ShowPromise file id room r after
-          go true l =
-              let s = ltb-true (length room) (length (recording_text file k)) l in
-              answers (is_shown ∙ in_short room (recording_text file k) s) e ((whole_or_nothing put).nothing (omega (arith, s))).0
-          go false l =
-              let s = ltb-false (length room) (length (recording_text file k)) l in
-              let n = ((whole_or_nothing put).whole (omega (arith, s))).1 in
-              let t = some in
-              absurd (omega (arith, n, z, t))
+          one : (k n : ℕ) → suc k + n ≡ k + suc n
+          one k n = omega arith
 
-      pub put_whole : (size ≡ 0 → ⊥) → ShowPromise file id room (record { number = 0; place = 0; length = size }) after
-      put_whole n = go (ltb (length room) (length (recording_text file k))) refl
-        where
-          sized : {m : ℕ} → size ≡ m → ◌≡◌ {A = Written} (record { number = 0; place = 0; length = size }) (record { number = 0; place = 0; length = m })
-          sized e = rw e refl
-
-          go : (b : Bool) → ltb (length room) (length (recording_text file k)) ≡ b → ShowPromise file id room (record { number = 0; place = 0; length = size }) after
-          go true l = let s = ltb-true (length room) (length (recording_text file k)) l in absurd (n ((whole_or_nothing put).nothing (omega (arith, s))).1)
-          go false l =
-              let s = ltb-false (length room) (length (recording_text file k)) l in
-              let m = ((whole_or_nothing put).whole (omega (arith, s))).1 in
-              answers (is_shown ∙ in_whole room (recording_text file k) s) (sized (omega (arith, m))) put.after_is
-
--- ---- a good file's entry: where its triangles lie, and that their text is the recording's
-module _ (file : List ℕ) (good : Layout file) {k : ℕ} (h : k < count_of file) {e : Entry} (entry : e ≡ entry_at file k) where
-  pub some_triangles : 1 ≤ e.count
-  some_triangles = subst (λ (x : Entry). 1 ≤ x.count) (sym entry) (good.some_triangles k h)
-
-  pub within : e.first + 24 * (e.count - 1 + 1) ≤ length file
-  within = subst (λ (x : Entry). x.first + 24 * (x.count - 1 + 1) ≤ length file) (sym entry) (let i = (parts_inside file k good h).in_file in let s = good.some_triangles k h in omega (arith, i, s))
-
-  pub text_is : text_of (triangles_from file e.first (e.count - 1 + 1)) ≡ recording_text file k
-  unfolding recording_text triangles_in
-  text_is = subst (λ (x : Entry). text_of (triangles_from file x.first (x.count - 1 + 1)) ≡ recording_text file k) (sym entry) (ap (λ n. text_of (triangles_from file (entry_at file k).first n)) (again (entry_at file k).count (good.some_triangles k h)))
+  pub entry_found : find (λ (e : Entry). eqb e.id id) (map (λ bytes. entry_from bytes 0) (entries_in file)) ≡ entry_in file (number_with file id)
+  unfolding found_in below entries_in entry_in number_with
+  entry_found = ap (λ m. found_in (first_chunks 12 (count_of file) (drop m file))) (none (table_place file)) ∙ (found_from (count_of file) 0 ∙ ap (λ m. below m (searched file id (count_of file) 0)) (all (count_of file)))
     where
-      again : (n : ℕ) → 0 < n → n - 1 + 1 ≡ n
-      again n h = omega (arith, h)
+      none : (m : ℕ) → m ≡ m + 12 * 0
+      none m = omega arith
+
+      all : (n : ℕ) → 0 + n ≡ n
+      all n = omega arith
+
+-- ---- the triangles of a part
+-- the six numbers that stand in a triangle's bytes are the triangle's
+by_six : (bytes : List ℕ) → triangle_by (six_of bytes) ≡ triangle_from bytes 0
+unfolding six_of triangle_from i32_at
+by_six bytes = refl
+
+first_triangle : (bytes : List ℕ) (at : ℕ) → triangle_by (six_of (take 24 (drop at bytes))) ≡ triangle_from bytes at
+first_triangle bytes at = by_six (take 24 (drop at bytes)) ∙ (triangle_part bytes at 24 0 (omega arith) ∙ ap (triangle_from bytes) (none at))
+  where
+    none : (m : ℕ) → m + 0 ≡ m
+    none m = omega arith
+
+pub texts_are : (bytes : List ℕ) (n at : ℕ) → texts_of (first_chunks 24 n (drop at bytes)) ≡ map triangle_text (triangles_from bytes at n)
+unfolding triangles_from
+texts_are bytes zero at = refl
+texts_are bytes (suc n) at = ap₂ (λ t ts. triangle_text t ∷ ts) (first_triangle bytes at) (ap (λ rest. texts_of (first_chunks 24 n rest)) (drop-drop 24 at bytes) ∙ texts_are bytes n (at + 24))
+
+module _ (file : List ℕ) (good : Layout file) {k : ℕ} (h : k < count_of file) where
+  abbrev pub part : List ℕ
+  part = bytes_of file (entry_at file k)
+
+  part_count : length part / 24 ≡ (entry_at file k).count
+  part_count =
+      let l = length-drop (entry_at file k).first file in
+      let i = (parts_inside file k good h).in_file in
+      let n = length-take-le (24 * (entry_at file k).count) (drop (entry_at file k).first file) (omega (arith, l, i)) in
+      omega (arith, n)
+
+  pub recording_is : collection_text (texts_of (first_chunks 24 (length part / 24) part)) ≡ recording_text file k
+  unfolding recording_text text_of
+  recording_is =
+      ap (λ ts. collection_text ts) (texts_are part (length part / 24) 0
+      ∙ ap (map triangle_text) (ap (triangles_from part 0) part_count ∙ (ap (λ p. triangles_from p 0 (entry_at file k).count) (sym (there_is file k (is_good file good) h).1) ∙ sym (triangles_of_part file k good h))))
+
+  pub some_triangles : (0 < length part / 24) × (length part / 24 ≤ 65536)
+  some_triangles =
+      let e = part_count in
+      let s = good.some_triangles k h in
+      let i = (parts_inside file k good h).in_file in
+      let m = good.at_most65536 in
+      (omega (arith, e, s), omega (arith, e, i, m))

@@ -1,174 +1,154 @@
 // A recording's footprint for the chart viewer: the file is judged, the recording found by its id, its text measured whole, and only then put.
 #![tactic(auto)]
 
-ghost use Rattle.std.specs.Prelude.{◌≡◌, [], ◌++◌, map, ◌+◌, ◌*◌, ◌<◌, ◌≤◌, length};
+ghost use Rattle.std.specs.Prelude.{◌≡◌, ◌++◌, ◌+◌, ◌*◌, ◌<◌, ◌≤◌, ◌↔◌, ◌==◌, find, length, map, IsSome, unwrap_or};
 ghost use Rattle.text.specs.Room.{Measured, Put};
-ghost use Rattle.layout.specs.Parts.{table_place, count_of, triangle_from};
-ghost use Rattle.layout.specs.Layout.{Layout};
-ghost use Rattle.layout.specs.Verdict.{number_at};
-ghost use Rattle.chart.specs.Words.{comma, others, triangle_text, text_of};
-ghost use Rattle.chart.specs.Recorded.{triangles_from, number_with};
-ghost use Rattle.chart.specs.Showing.{no_text};
+ghost use Rattle.layout.specs.Parts.{entry_from};
+ghost use Rattle.footprint.specs.Contents.{contents, entries_in};
+ghost use Rattle.chart.specs.Words.{comma, others, collection_text};
 ghost use Rattle.chart.specs.Promise.{ShowPromise};
+ghost use Rattle.showing.specs.Code.{text_at, texts_of};
+ghost use Rattle.showing.specs.Told.{said, told};
 
-// ---- triangles that are stored in a file
+use footprint::Footprint;
 
-// How long the polygon of the triangle is that these bytes begin with.
-fn length_in(bytes: &[u8]) -> usize
-    ensures { Measured (triangle_text (triangle_from bytes.now 0)) result × (result ≤ 118) }
-{
-    let x0 = reading::u32_at(bytes, 0);
-    let y0 = reading::u32_at(bytes, 4);
-    let x1 = reading::u32_at(bytes, 8);
-    let y1 = reading::u32_at(bytes, 12);
-    let x2 = reading::u32_at(bytes, 16);
-    let y2 = reading::u32_at(bytes, 20);
-    polygons::length_of(x0, y0, x1, y1, x2, y2)
+// ---- refusals
+
+// Why no text is put: the file is refused, no recording has the id, or the room is shorter than the text.
+#[derive(Clone, Copy, Debug, PartialEq, Eq)]
+enum Refusal {
+    File(layout::Refused),
+    NoRecording,
+    NoRoom,
 }
 
-// Puts that polygon into the room from a place on; the place behind it.
-fn put_from(room: &mut [u8], to: usize, bytes: &[u8]) -> usize
-    ensures { Put room.old to (triangle_text (triangle_from bytes.now 0)) room.new result }
-{
-    let x0 = reading::u32_at(bytes, 0);
-    let y0 = reading::u32_at(bytes, 4);
-    let x1 = reading::u32_at(bytes, 8);
-    let y1 = reading::u32_at(bytes, 12);
-    let x2 = reading::u32_at(bytes, 16);
-    let y2 = reading::u32_at(bytes, 20);
-    polygons::put(room, to, x0, y0, x1, y1, x2, y2)
+impl From<layout::Refused> for Refusal {
+    ghost use Rattle.showing.specs.declared.Refusal.TheVariants.{File};
+
+    ghost from_gives = { λ refused refusal. refusal ≡ File refused };
+
+    fn from(refused: layout::Refused) -> Refusal {
+        Refusal::File(refused)
+    }
 }
 
-// How long the polygon of the triangle is that is stored at a place. It is cut out before it is read: the part's length is then a constant, and no test of it is left in the compiled code.
-fn length_at(file: &[u8], at: usize) -> usize
-    requires { at + 24 ≤ length file.now }
-    ensures { Measured (triangle_text (triangle_from file.now at)) result × (result ≤ 118) }
-{
-    let behind = at + 24;
-    length_in(&file[at..behind])
+impl From<Refusal> for text::Written {
+    ghost from_gives = { λ refusal written. written ≡ said refusal };
+
+    fn from(refusal: Refusal) -> text::Written {
+        let (number, place) = match refusal {
+            Refusal::File(refused) => (refused.why.number(), refused.place),
+            Refusal::NoRecording => (21, 0),
+            Refusal::NoRoom => (20, 0),
+        };
+        text::Written {
+            number,
+            place,
+            length: 0,
+        }
+    }
 }
 
-// Puts that polygon into the room from a place on; the place behind it.
-fn put_at(room: &mut [u8], to: usize, file: &[u8], at: usize) -> usize
-    requires { at + 24 ≤ length file.now }
-    ensures { Put room.old to (triangle_text (triangle_from file.now at)) room.new result }
+// ---- triangles as they are stored
+
+// How long the polygon of a triangle is.
+fn polygon_length(bytes: &[u8; 24]) -> usize
+    ensures { Measured (text_at bytes.now) result × (result ≤ 118) }
 {
-    let behind = at + 24;
-    put_from(room, to, &file[at..behind])
+    polygons::length_of(reading::six_of(bytes))
 }
 
-// How long n polygons are, stored from a place on, each behind a comma and a space.
-fn others_length(file: &[u8], at: usize, n: usize) -> usize
-    requires { (at + 24 * n ≤ length file.now) × (length file.now ≤ 65536) }
-    ensures { Measured (others (map triangle_text (triangles_from file.now at n))) result × (result ≤ 120 * n) }
+// Puts that polygon into the room from a place on: the place behind it, or none where it does not fit and nothing is put.
+fn put_polygon(room: &mut [u8], to: usize, bytes: &[u8; 24]) -> Option<usize>
+    ensures placed { Put room.old to (text_at bytes.now) room.new (unwrap_or result to) }
+    ensures fits { IsSome result ↔ (to + length (text_at bytes.now) ≤ length room.old) }
 {
-    let mut sum: usize = 0;
-    let mut done: usize = 0;
-    while done < n {
-        sum = sum + 2 + length_at(file, at + 24 * done);
-        done = done + 1;
+    polygons::put(room, to, reading::six_of(bytes))
+}
+
+// How long so many polygons are, each behind a comma and a space.
+fn others_length(triangles: &[[u8; 24]]) -> usize
+    requires { length triangles.now ≤ 65536 }
+    ensures { Measured (others (texts_of triangles.now)) result × (result ≤ 120 * length triangles.now) }
+{
+    let mut sum = 0;
+    for bytes in triangles {
+        sum += 2 + polygon_length(bytes);
     }
     sum
 }
 
-// A comma, a space and the polygon of the triangle at a place, for which there is room, from a place of the room on; the place behind them.
-fn put_other(room: &mut [u8], to: usize, file: &[u8], at: usize) -> usize
-    requires { (at + 24 ≤ length file.now) × (to + (2 + length (triangle_text (triangle_from file.now at))) ≤ length room.old) }
-    ensures { Put room.old to (comma ++ triangle_text (triangle_from file.now at)) room.new result }
+// A comma, a space and a polygon, for which there is room, from a place of the room on; the place behind them.
+fn put_other(room: &mut [u8], to: usize, bytes: &[u8; 24]) -> usize
+    requires { to + length (comma ++ text_at bytes.now) ≤ length room.old }
+    ensures { Put room.old to (comma ++ text_at bytes.now) room.new result }
 {
-    let p = text::put_bytes(room, to, b", ");
-    put_at(room, p, file, at)
+    let p = text::put_bytes(room, to, b", ").unwrap();
+    put_polygon(room, p, bytes).unwrap()
 }
 
-// n polygons, stored from a place on, each behind a comma and a space, likewise.
-fn put_others(room: &mut [u8], to: usize, file: &[u8], at: usize, n: usize) -> usize
-    requires { (at + 24 * n ≤ length file.now) × (length file.now ≤ 65536) × (to + length (others (map triangle_text (triangles_from file.now at n))) ≤ length room.old) }
-    ensures { Put room.old to (others (map triangle_text (triangles_from file.now at n))) room.new result }
+// So many polygons, each behind a comma and a space, likewise.
+fn put_others(room: &mut [u8], to: usize, triangles: &[[u8; 24]]) -> usize
+    requires { to + length (others (texts_of triangles.now)) ≤ length room.old }
+    ensures { Put room.old to (others (texts_of triangles.now)) room.new result }
 {
     let mut next = to;
-    let mut done: usize = 0;
-    while done < n {
-        next = put_other(room, next, file, at + 24 * done);
-        done = done + 1;
+    for bytes in triangles {
+        next = put_other(room, next, bytes);
     }
     next
 }
 
-// The text of one triangle and n more, at the front of the room, and its length. Where it does not fit, nothing is put, and the length is 0.
-fn put_text(room: &mut [u8], file: &[u8], at: usize, n: usize) -> usize
-    requires { (at + 24 * (n + 1) ≤ length file.now) × (length file.now ≤ 65536) }
-    ensures { Put room.old 0 (text_of (triangles_from file.now at (n + 1))) room.new result }
+// The text of triangles, of which there is one at least, at the front of the room, and its length; none where it does not fit and nothing is put.
+fn put_text(room: &mut [u8], triangles: &[[u8; 24]]) -> Option<usize>
+    requires { (0 < length triangles.now) × (length triangles.now ≤ 65536) }
+    ensures placed { Put room.old 0 (collection_text (texts_of triangles.now)) room.new (unwrap_or result 0) }
+    ensures fits { IsSome result ↔ (length (collection_text (texts_of triangles.now)) ≤ length room.old) }
 {
-    let size = 21 + length_at(file, at) + others_length(file, at + 24, n);
+    let (first, rest) = triangles.split_first()?;
+    let size = 21 + polygon_length(first) + others_length(rest);
     if room.len() < size {
-        return 0;
+        return None;
     }
-    let a = text::put_bytes(room, 0, b"GEOMETRYCOLLECTION (");
-    let b = put_at(room, a, file, at);
-    let c = put_others(room, b, file, at + 24, n);
+    let a = text::put_bytes(room, 0, b"GEOMETRYCOLLECTION (")?;
+    let b = put_polygon(room, a, first)?;
+    let c = put_others(room, b, rest);
     text::put_bytes(room, c, b")")
 }
 
 // ---- a recording by its id
 
-// The number of the recording that has the id; the count of recordings where none has.
-fn number_with(file: &[u8], table: usize, count: usize, id: u32) -> usize
-    requires { (table ≡ table_place file.now) × (count ≡ count_of file.now) × (table + 12 * count ≤ 65536) }
-    ensures { result ≡ number_with file.now id }
+// The first entry that has the id.
+fn entry_with(file: Footprint, id: u32) -> Option<layout::Entry>
+    ensures { result ≡ find (λ e. e.id == id) (map (λ bytes. entry_from bytes 0) (entries_in (contents file.entry))) }
 {
-    let mut k: usize = 0;
-    while k < count {
-        if reading::u32_at(file, table + 12 * k) == id {
-            return k;
-        }
-        k = k + 1;
-    }
-    k
+    file.entries()
+        .iter()
+        .map(|bytes| reading::entry_at(bytes, 0))
+        .find(|e| e.id == id)
 }
 
-// A refusal: its number and its place, with length 0.
-fn no_text(number: u32, place: u32) -> text::Written
-    ensures { result ≡ (no_text [] (number_at number place)).result }
+// The length of the text that was put.
+fn shown(file: &[u8], id: u32, room: &mut [u8]) -> Result<usize, Refusal>
+    ensures { ShowPromise file.now id room.old (told result) room.new }
 {
-    text::Written {
-        number,
-        place,
-        length: 0,
-    }
-}
-
-// A good file's recording.
-fn shown(file: &[u8], id: u32, room: &mut [u8]) -> text::Written
-    requires { Layout file.now }
-    ensures { ShowPromise file.now id room.old result room.new }
-{
-    let n = file.len();
-    let table = reading::u32_at(file, n - 12) as usize;
-    let count = reading::u32_at(file, n - 8) as usize;
-    let k = number_with(file, table, count, id);
-    if count <= k {
-        return no_text(21, 0);
-    }
-    let e = reading::entry_at(file, table + 12 * k);
-    let size = put_text(room, file, e.first as usize, e.count as usize - 1);
-    // No text is empty, so nothing was put.
-    if size == 0 {
-        return no_text(20, 0);
-    }
-    text::Written {
-        number: 0,
-        place: 0,
-        length: size,
-    }
+    let file = Footprint::read(file)?;
+    let entry = entry_with(file, id).ok_or(Refusal::NoRecording)?;
+    let (triangles, _) = file.part(entry).as_chunks::<24>();
+    put_text(room, triangles).ok_or(Refusal::NoRoom)
 }
 
 // The well-known text of the recording that has the id, to the front of the room, or a refusal, with the room as it was: the file's own, 21 where no recording has the id, or 20 where the room is shorter than the text.
+// Stays a number beside a place and a length: `meskelow_wkt` hands them to C.
 pub fn wkt(file: &[u8], id: u32, room: &mut [u8]) -> text::Written
     ensures { ShowPromise file.now id room.old result room.new }
 {
-    let v = footprint::check(file);
-    if v.number != 0 {
-        return no_text(v.number, v.place);
+    match shown(file, id, room) {
+        Ok(length) => text::Written {
+            number: 0,
+            place: 0,
+            length,
+        },
+        Err(refusal) => refusal.into(),
     }
-    shown(file, id, room)
 }

@@ -1,141 +1,59 @@
 // Numbers and table entries stored in a room, the lowest byte first. Each is put whole or not at all.
 #![tactic(auto)]
 
-ghost use Rattle.std.specs.Prelude.{◌≡◌, [], ◌∷◌, ◌++◌, ◌+◌, ◌*◌, ◌%◌, ◌≤◌, leb, pos, length, get_or};
+ghost use Rattle.std.specs.Prelude.{◌≡◌, ◌+◌, ◌*◌, ◌≤◌, ◌↔◌, pos, length, get_or, unwrap_or, IsSome};
 ghost use Rattle.text.specs.Room.{Put};
 ghost use Rattle.layout.specs.Bytes.{signed};
-ghost use Rattle.filing.specs.Given.{entry_by};
-ghost use Rattle.filing.specs.File.{in_four, bits_of, number_bytes, entry_bytes};
+ghost use Rattle.filing.specs.File.{bits_of, number_bytes, entry_bytes};
+ghost use Rattle.storing.specs.Stored.{stored, three_bytes};
 
-// The 32 bits of an i32.
-fn bits(z: i32) -> u32
-    ensures { result ≡ bits_of z }
-{
-    if z < 0 {
-        (z as i64 + 4294967296) as u32
-    } else {
-        z as u32
-    }
-}
+use layout::Entry;
 
 // The 32 bits of number j, which stand for it; beyond the end every number counts as 0.
 pub fn bits_at(numbers: &[i32], j: usize) -> u32
     ensures { (result ≡ bits_of (get_or numbers.now j (pos 0))) × (signed result ≡ get_or numbers.now j (pos 0)) }
 {
-    if j < numbers.len() {
-        return bits(numbers[j]);
-    }
-    0
+    numbers.get(j).copied().unwrap_or(0).cast_unsigned()
 }
 
-// The lowest byte of a number.
-fn low(v: u32) -> u8
-    ensures { result ≡ v % 256 }
-{
-    (v % 256) as u8
-}
-
-// Four bytes, for which there is room, from a place on; the place behind them.
-fn store(room: &mut [u8], at: usize, a: u8, b: u8, c: u8, d: u8) -> usize
-    requires { at + 4 ≤ length room.old }
-    ensures { Put room.old at (a ∷ b ∷ c ∷ d ∷ []) room.new result }
-{
-    room[at] = a;
-    room[at + 1] = b;
-    room[at + 2] = c;
-    room[at + 3] = d;
-    at + 4
-}
-
-// A number in four bytes likewise.
-fn store_four(room: &mut [u8], at: usize, v: u32) -> usize
-    requires { at + 4 ≤ length room.old }
-    ensures { Put room.old at (in_four v) room.new result }
-{
-    store(
-        room,
-        at,
-        low(v),
-        low(v / 256),
-        low(v / 65536),
-        low(v / 16777216),
-    )
-}
-
-// Numbers, for which there is room, at its front; the place behind them.
-fn store_numbers(room: &mut [u8], numbers: &[i32]) -> usize
-    requires { 4 * length numbers.now ≤ length room.old }
-    ensures { Put room.old 0 (number_bytes numbers.now) room.new result }
-{
-    let mut to: usize = 0;
-    let mut j: usize = 0;
-    while j < numbers.len() {
-        to = store_four(room, to, bits_at(numbers, j));
-        j = j + 1;
-    }
-    to
-}
-
-// Numbers at the front of the room, and the place behind them. Where they do not fit, nothing is put, and the place is 0.
-pub fn put_numbers(room: &mut [u8], numbers: &[i32]) -> usize
-    ensures { Put room.old 0 (number_bytes numbers.now) room.new result }
+// Numbers at the front of the room, and the place behind them; None where they do not fit, and nothing is put.
+pub fn put_numbers(room: &mut [u8], numbers: &[i32]) -> Option<usize>
+    ensures placed { Put room.old 0 (number_bytes numbers.now) room.new (unwrap_or result 0) }
+    ensures fits { IsSome result ↔ (4 * length numbers.now ≤ length room.old) }
 {
     if room.len() / 4 < numbers.len() {
-        return 0;
+        return None;
     }
-    store_numbers(room, numbers)
+    // Stays with a place counted beside the loop: of what an adapter of `iter_mut` wrote nothing is known afterwards, so chunks by `zip` leave the room open.
+    let mut to = 0;
+    for z in numbers {
+        room[to..to + 4].copy_from_slice(&z.to_le_bytes());
+        to += 4;
+    }
+    Some(to)
 }
 
-// Whether twelve bytes from a place on lie in a room of so many.
-fn has_twelve(most: usize, at: usize) -> bool
-    ensures { result ≡ leb (at + 12) most }
+// A table entry in its twelve bytes from a place on, and the place behind them; None where they do not fit, and nothing is put. Of a count the two lowest bytes are stored, of a set and a last byte the lowest.
+pub fn put_entry(room: &mut [u8], at: usize, e: Entry) -> Option<usize>
+    ensures placed { Put room.old at (entry_bytes (stored e)) room.new (unwrap_or result at) }
+    ensures fits { IsSome result ↔ (at + 12 ≤ length room.old) }
 {
-    if most < 12 {
-        return false;
-    }
-    at <= most - 12
-}
-
-// Two numbers in four bytes each and four bytes more, from a place on; the place behind them. Where they do not fit, nothing is put, and the place stays.
-fn put_twelve(room: &mut [u8], at: usize, a: u32, b: u32, w: u8, x: u8, y: u8, z: u8) -> usize
-    ensures { Put room.old at (in_four a ++ in_four b ++ (w ∷ x ∷ y ∷ z ∷ [])) room.new result }
-{
-    if has_twelve(room.len(), at) {
-        let p = store_four(room, at, a);
-        let q = store_four(room, p, b);
-        store(room, q, w, x, y, z)
-    } else {
-        at
-    }
-}
-
-// A table entry likewise.
-pub fn put_entry(
-    room: &mut [u8],
-    at: usize,
-    id: u32,
-    first: u32,
-    count: u32,
-    set: u8,
-    last: u8,
-) -> usize
-    ensures { Put room.old at (entry_bytes (entry_by id first count set last)) room.new result }
-{
-    put_twelve(room, at, id, first, low(count), low(count / 256), set, last)
+    let [a, b, c, d] = e.id.to_le_bytes();
+    let [f, g, h, i] = e.first.to_le_bytes();
+    let [low, high, _, _] = e.count.to_le_bytes();
+    let [set, _, _, _] = e.set.to_le_bytes();
+    let [last, _, _, _] = e.last.to_le_bytes();
+    text::put_bytes(room, at, &[a, b, c, d, f, g, h, i, low, high, set, last])
 }
 
 // Three numbers likewise, in four bytes each.
-pub fn put_three(room: &mut [u8], at: usize, a: u32, b: u32, c: u32) -> usize
-    ensures { Put room.old at (in_four a ++ in_four b ++ in_four c) room.new result }
+pub fn put_three(room: &mut [u8], at: usize, three: [u32; 3]) -> Option<usize>
+    ensures placed { Put room.old at (three_bytes three) room.new (unwrap_or result at) }
+    ensures fits { IsSome result ↔ (at + 12 ≤ length room.old) }
 {
-    put_twelve(
-        room,
-        at,
-        a,
-        b,
-        low(c),
-        low(c / 256),
-        low(c / 65536),
-        low(c / 16777216),
-    )
+    let mut bytes = [0; 12];
+    bytes[0..4].copy_from_slice(&three[0].to_le_bytes());
+    bytes[4..8].copy_from_slice(&three[1].to_le_bytes());
+    bytes[8..12].copy_from_slice(&three[2].to_le_bytes());
+    text::put_bytes(room, at, &bytes)
 }

@@ -9,7 +9,7 @@ ghost use Rattle.table.specs.Table.{digit_of, flags_in, index_of, signs_in, entr
 // U2, and then one for each of the edges 0, 1 and 2, the lines that it crosses. So 0o735, with the signs + + +, - + + and + - +, has the entry 0o4462: U0 is in V, edge 0
 // crosses line 0, edge 1 crosses lines 0 and 1, edge 2 crosses line 1. No vertex is minus three times: where an index has the digit 0, the entry is 0.
 // There is a block for each first digit of the index; in it two rows for each second digit, with the third digits 0 to 3 and 4 to 7.
-const TABLE: [[[u16; 4]; 16]; 8] = [
+static TABLE: [[[u16; 4]; 16]; 8] = [
     [
         [0o0000, 0o0000, 0o0000, 0o0000],
         [0o0000, 0o0000, 0o0000, 0o0000],
@@ -160,7 +160,7 @@ const TABLE: [[[u16; 4]; 16]; 8] = [
 pub fn digit_of(s: [bool; 3]) -> u16
     ensures { (result ≡ digit_of s) × (result < 8) }
 {
-    ((s[0] as u16) << 2) | (((s[1] as u16) << 1) | (s[2] as u16))
+    (u16::from(s[0]) << 2) | ((u16::from(s[1]) << 1) | u16::from(s[2]))
 }
 
 // The three truth values of a digit; of a longer number, those of its last one.
@@ -174,37 +174,7 @@ pub fn flags_of(d: u16) -> [bool; 3]
 pub fn index_of(signs: [[bool; 3]; 3]) -> u16
     ensures { (result ≡ index_of signs) × (result < 512) }
 {
-    let s = signs[0];
-    let t = signs[1];
-    let u = signs[2];
-    64 * digit_of(s) + 8 * digit_of(t) + digit_of(u)
-}
-
-// The number in row j and column k of a block.
-fn in_block(block: [[u16; 4]; 16], j: usize, k: usize) -> u16
-    requires { (j < 16) × (k < 4) }
-    ensures { result ≡ get_or (get_or block j []) k 0 }
-{
-    block[j][k]
-}
-
-// Number i of a table in eight blocks. A constant is written to the stack where it is read: block by block, so that it is one block and not the whole table.
-fn number_in(blocks: [[[u16; 4]; 16]; 8], i: usize) -> u16
-    requires { i < 512 }
-    ensures { result ≡ number_in blocks i }
-{
-    let j = i / 4 % 16;
-    let k = i % 4;
-    match i / 64 {
-        0 => in_block(blocks[0], j, k),
-        1 => in_block(blocks[1], j, k),
-        2 => in_block(blocks[2], j, k),
-        3 => in_block(blocks[3], j, k),
-        4 => in_block(blocks[4], j, k),
-        5 => in_block(blocks[5], j, k),
-        6 => in_block(blocks[6], j, k),
-        _ => in_block(blocks[7], j, k),
-    }
+    64 * digit_of(signs[0]) + 8 * digit_of(signs[1]) + digit_of(signs[2])
 }
 
 // The entry at an index: what the rules say of the signs that it stands for.
@@ -212,14 +182,15 @@ fn entry_at(i: usize) -> u16
     requires { i < 512 }
     ensures { result ≡ entry_for (signs_in i) }
 {
-    number_in(TABLE, i)
+    TABLE[i / 64][i / 4 % 16][i % 4]
 }
 
 // What the rules say of nine signs, as the table has it.
+#[tactic(auto, using(crate::proofs::Entries::at_index))]
 pub fn entry_of(signs: [[bool; 3]; 3]) -> u16
     ensures { result ≡ entry_for signs }
 {
-    entry_at(index_of(signs) as usize)
+    entry_at(usize::from(index_of(signs)))
 }
 
 // The vertices that are in V, by the entry.
@@ -233,14 +204,10 @@ pub fn vertices_in(entry: u16) -> [bool; 3]
 pub fn crossed_by(entry: u16, e: usize) -> u16
     ensures { (result ≡ crossed_in entry e) × (result < 8) }
 {
-    if e == 0 {
-        return entry / 64 % 8;
+    match e {
+        0 => entry / 64 % 8,
+        1 => entry / 8 % 8,
+        2 => entry % 8,
+        _ => 0,
     }
-    if e == 1 {
-        return entry / 8 % 8;
-    }
-    if e == 2 {
-        return entry % 8;
-    }
-    0
 }

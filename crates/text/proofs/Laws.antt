@@ -1,13 +1,15 @@
--- Laws of decimals, and of the loops that put digits and bytes. Assumes nothing.
+-- Laws of decimals, and of the loop that puts digits. Assumes nothing.
 use Prim.Native.Nat.{ℕ, zero, suc, ◌+◌, ◌-◌, ◌/◌, ◌%◌, ◌^◌, ◌<◌, ◌≤◌}
 use mathlib.Core.Path.{◌≡◌, refl, ap, ap₂, sym, ◌∙◌}
 use mathlib.Core.Bool.{Bool, true, false}
-use mathlib.Core.List.{List, [], ◌∷◌, ◌++◌}
+use mathlib.Core.List.{List, [], ◌∷◌, ◌++◌, append_assoc}
 use native.Mathlib.Omega.{arith}
-use native.Mathlib.Nat.{add-zero, pow-suc}
+use native.Mathlib.Nat.{pow-suc}
 use native.Mathlib.Numerals.{add-one}
-use lib.ListN.{length, get_or, drop, set, length-append}
-use lib.Seq.{sets, set_comm, drop-cons}
+use lib.ListN.{length, drop, set, length-append, length-set}
+use lib.Seq.{drop-cons}
+use Rattle.std.proofs.Common.{get_or-set_same}
+use Rattle.std.proofs.lemmas.List.{drop-set-lt}
 use lib.Dec.{ltb}
 use borrow.Author.Tests.{ltb-true, ltb-false, lt-ltb, le-ltb}
 use Rattle.text.specs.Decimal.{digit, decimal_by, decimal}
@@ -122,28 +124,21 @@ all_digits = by_tens (λ n. digits (length (decimal n)) n ≡ decimal n) small l
         ap (λ k. digits k n) (width_large n h ∙ add-one (length (decimal (n / 10))))
         ∙ (digits-suc (length (decimal (n / 10))) n ∙ (ap (λ t. t ++ (digit (n % 10) ∷ [])) tens ∙ sym (tens_and_last n h)))
 
--- ---- runs of stores
-pub pred_suc : {j : ℕ} → 0 < j → j ≡ suc (j - 1)
-pred_suc h = omega arith
+-- ---- digits put from the last to the first
+-- a value that is stored, and what lies behind it
+drop-stored : (room : List ℕ) (j d : ℕ) → j < length room → drop j (set room j d) ≡ d ∷ drop (suc j) room
+drop-stored room j d h =
+    let n = length-set room j d in
+    drop-cons (set room j d) j 0 (omega (arith, h, n)) ∙ ap₂ (λ (x : ℕ) (xs : List ℕ). x ∷ xs) (get_or-set_same room j d 0 h) (drop-set-lt (suc j) room j d (omega arith))
 
--- the last of a run, stored first
-sets_last : (xs l : List ℕ) (at d : ℕ) → sets l at (xs ++ (d ∷ [])) ≡ sets (set l (at + length xs) d) at xs
-sets_last [] l at d = rw add-zero
-sets_last (a ∷ xs) l at d =
-    let e : suc at + length xs ≡ at + suc (length xs) = omega arith in
-    sets_last xs (set l at a) (suc at) d
-    ∙ ap (λ (r : List ℕ). sets r (suc at) xs) (rw e (set_comm l at (at + suc (length xs)) a d (λ (q : at ≡ at + suc (length xs)). omega arith)))
+-- a digit more, put in front of those that are there
+digits_more : (room : List ℕ) (j m d : ℕ) → j < length room → d ≡ digit (m % 10) → digits j (m / 10) ++ drop j (set room j d) ≡ digits (suc j) m ++ drop (suc j) room
+digits_more room j m d h e =
+    ap (λ r. digits j (m / 10) ++ r) (drop-stored room j d h ∙ ap (λ x. x ∷ drop (suc j) room) e)
+    ∙ (sym (append_assoc (digits j (m / 10)) (digit (m % 10) ∷ []) (drop (suc j) room)) ∙ ap (λ t. t ++ drop (suc j) room) (sym (digits-suc j m)))
 
--- a turn of the loop that puts digits
-pub digits_turn : (l : List ℕ) (at i m d : ℕ) → 0 < i → d ≡ digit (m % 10) → sets l at (digits i m) ≡ sets (set l (at + (i - 1)) d) at (digits (i - 1) (m / 10))
-digits_turn l at i m d h e =
-    ap (λ (k : ℕ). sets l at (digits k m)) (pred_suc h)
-    ∙ ap (sets l at) (digits-suc (i - 1) m)
-    ∙ sets_last (digits (i - 1) (m / 10)) l at (48 + m % 10)
-    ∙ rw (digits-length (i - 1) (m / 10), e)
-
--- a turn of the loop that copies
-pub copy_turn : (l src : List ℕ) (at i : ℕ) → i < length src → sets l (at + i) (drop i src) ≡ sets (set l (at + i) (get_or src i 0)) (at + (i + 1)) (drop (i + 1) src)
-copy_turn l src at i h =
-    let e : at + suc i ≡ suc (at + i) = omega arith in
-    rw (drop-cons src i 0, add-one) (rw e refl)
+-- a turn of the loop that puts them
+pub digits_turn : (room : List ℕ) (i m d : ℕ) → 0 < i → i ≤ length room → d ≡ digit (m % 10) → digits (i - 1) (m / 10) ++ drop (i - 1) (set room (i - 1) d) ≡ digits i m ++ drop i room
+digits_turn room i m d h g e =
+    let s : suc (i - 1) ≡ i = omega (arith, h) in
+    digits_more room (i - 1) m d (omega (arith, h, g)) e ∙ ap (λ k. digits k m ++ drop k room) s

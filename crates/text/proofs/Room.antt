@@ -1,18 +1,29 @@
 -- What is put into a room stands there whole or not at all, the rest is kept, and texts that are put one behind the other are put as one. Assumes nothing.
-use Prim.Native.Nat.{ℕ, suc, ◌+◌, ◌<◌, ◌≤◌}
+use Prim.Native.Nat.{ℕ, suc, ◌+◌, ◌-◌, ◌<◌, ◌≤◌}
 use mathlib.Core.Path.{◌≡◌, refl, ap, ap₂, sym, subst, ◌∙◌}
-use mathlib.Core.Bool.{Bool, true, false}
+use mathlib.Core.Bool.{Bool, true, false, false≢true}
 use mathlib.Core.List.{List, [], ◌∷◌, ◌++◌, append_assoc}
 use native.Mathlib.Omega.{arith}
 use native.Mathlib.Nat.{add-zero}
 use lib.Dec.{leb}
 use borrow.Author.Tests.{leb-true, leb-false, le-leb, lt-leb}
-use lib.ListN.{length, get_or, take, drop, set, length-append, get_or-append}
-use lib.Seq.{sets, sets-eq, length-sets, length-take-le, take-append_seam, take_at, drop_at, get_or-take, get_or-append-add}
-use Rattle.text.specs.Room.{Measured, laid, behind, Put, WholeOrNothing, NoSecondPut, PutsWhole}
+use lib.ListN.{length, get_or, take, drop, set, length-append, length-drop, get_or-append}
+use lib.Seq.{sets, sets-eq, length-sets, length-take-le, take-append_seam, take_at, drop_at, drop-drop, get_or-take, get_or-append-add}
+use borrow.Rule.Slice.PartMut.{put_mid}
+use Rattle.text.specs.Room.{Measured, laid, behind, Put, WholeOrNothing, NoSecondPut, NoSecondPlace, PutsWhole}
+use Rattle.std.specs.Prelude.{◌↔◌, Option, None, Some, IsSome, unwrap_or}
 
 pub no_second_put : NoSecondPut
 no_second_put A room at text a b m n p q = (p.after_is ∙ sym q.after_is, p.next_is ∙ sym q.next_is)
+
+pub no_second_place : NoSecondPlace
+no_second_place A room at text a b m n p s q t = (p.after_is ∙ sym q.after_is, go m n (p.next_is ∙ sym q.next_is) s t)
+  where
+    go : (m n : Option ℕ) → unwrap_or m at ≡ unwrap_or n at → (IsSome m ↔ (at + length text ≤ length room)) → (IsSome n ↔ (at + length text ≤ length room)) → m ≡ n
+    go None None e s t = refl
+    go None (Some y) e s t = absurd (false≢true (s.1 (t.0 refl)))
+    go (Some x) None e s t = absurd (false≢true (t.1 (s.0 refl)))
+    go (Some x) (Some y) e s t = ap Some e
 
 module _ {A : Type 0} (room text : List A) (at : ℕ) where
   -- ---- a text that fits: a run of stores, and the place behind it
@@ -49,6 +60,27 @@ module _ {A : Type 0} (room text : List A) (at : ℕ) where
   put_all size m h p =
       let fit : at + length text ≤ length room = subst (λ n. at + n ≤ length room) m h in
       record { after_is = p ∙ sym (laid-sets fit); next_is = ap (λ n. at + n) m ∙ sym (behind_whole fit) }
+
+  -- not at all, or over the part of the room from the place to another
+  pub put_not : {next : ℕ} → (at + length text ≤ length room → ⊥) → next ≡ at → Put room at text room next
+  put_not h e = let short : length room < at + length text = omega (arith, h) in record { after_is = sym (laid_not short); next_is = e ∙ sym (behind_not short) }
+
+  pub put_part : {next : ℕ} {part : List A} → (at + length text ≤ length room) × (next ≡ at + length text) → part ≡ text → Put room at text (put_mid at (next - at) room part) next
+  put_part {next} {part} h e =
+      let size : at + (next - at) ≡ at + length text = omega (arith, h.1) in
+      record {
+        after_is = ap₂ (λ xs ys. take at room ++ (xs ++ ys)) e (drop-drop (next - at) at room ∙ ap (λ n. drop n room) size)
+            ∙ (sym (append_assoc (take at room) text (drop (at + length text) room)) ∙ sym (laid_whole h.0));
+        next_is = h.1 ∙ sym (behind_whole h.0);
+      }
+
+  -- that part is as long as the text
+  pub part_length : {next : ℕ} → (at + length text ≤ length room) × (next ≡ at + length text) → length (take (next - at) (drop at room)) ≡ length text
+  part_length {next} h = let n = length-drop at room in
+      length-take-le (next - at) (drop at room) (omega (arith, h.0, h.1, n)) ∙ size
+    where
+      size : next - at ≡ length text
+      size = omega (arith, h.1)
 
   -- ---- what stands there afterwards
   stands : WholeOrNothing room at text (laid room at text) (behind room at text)
@@ -134,6 +166,20 @@ module _ {A : Type 0} where
       sum : (m n : ℕ) → p ≡ at + m → q ≡ p + n → at + (m + n) ≡ q
       sum m n e f = omega (arith, e, f)
 
+  -- likewise where the second answers with a place or none: there is one, as both fit
+  pub put_behind : {room mid after xs ys : List A} {at next : ℕ} (answer : Option ℕ) → Put room at xs mid next → Put mid next ys after (unwrap_or answer next) → (IsSome answer ↔ (next + length ys ≤ length mid)) → at + length (xs ++ ys) ≤ length room → Put room at (xs ++ ys) after (unwrap_or answer at) × IsSome answer
+  put_behind {room} {mid} {after} {xs} {ys} {at} {next} answer a b f h = go answer (f.1 second) b
+    where
+      size : length (xs ++ ys) ≡ length xs + length ys
+      size = length-append xs ys
+
+      second : next + length ys ≤ length mid
+      second = let n = put_next a (omega (arith, h, size)) in let l = Put-length a in omega (arith, h, size, n, l)
+
+      go : (answer : Option ℕ) → IsSome answer → Put mid next ys after (unwrap_or answer next) → Put room at (xs ++ ys) after (unwrap_or answer at) × IsSome answer
+      go None s p = absurd (false≢true s)
+      go (Some q) s p = (put_two a p (omega (arith, h, size)), refl)
+
   -- and so are three, and four
   pub put_three : {room m1 m2 after xs ys zs : List A} {at p q r : ℕ} → Put room at xs m1 p → Put m1 p ys m2 q → Put m2 q zs after r → at + (length xs + length ys + length zs) ≤ length room → Put room at (xs ++ ys ++ zs) after r
   put_three {xs = xs} {ys = ys} a b c h = let n = length-append xs ys in put_two (put_two a b (omega (arith, h))) c (omega (arith, h, n))
@@ -159,6 +205,16 @@ module _ {A : Type 0} where
       sum : (n : ℕ) {m : ℕ} → m ≡ 0 + n → n ≡ m
       sum n e = omega (arith, e)
 
+  -- and what was put there is as long as the text, or not there at all
+  pub put_front_all : {room text after : List A} {next : ℕ} → Put room 0 text after next → length text ≤ length room → next ≡ length text
+  put_front_all {room} {text} p h = let n = put_next p (omega (arith, h)) in omega (arith, n)
+
+  pub put_front_none : {room text after : List A} {next : ℕ} → Put room 0 text after next → (length text ≤ length room → ⊥) → after ≡ room
+  put_front_none {room} {text} p h = ((whole_or_nothing p).nothing (omega (arith, h))).0
+
   -- of a text that is the same
   pub put_as : {room text text' after : List A} {at next : ℕ} → text ≡ text' → Put room at text after next → Put room at text' after next
   put_as {room} {text} {text'} {after} {at} {next} e p = subst (λ t. Put room at t after next) e p
+
+  pub fits_as : {text text' : List A} (room : List A) (at : ℕ) (answer : Option ℕ) → text ≡ text' → (IsSome answer ↔ (at + length text ≤ length room)) → IsSome answer ↔ (at + length text' ≤ length room)
+  fits_as room at answer e f = subst (λ t. IsSome answer ↔ (at + length t ≤ length room)) e f

@@ -1,5 +1,5 @@
 -- 01, "The leak list": what is written to lent room stands there whole, from a place on, and the rest stays; where the room is too short nothing is written, so the length is known before the first value is put. Said of values of any kind, which are called a text here. Definitions and statements.
-use Rattle.std.specs.Prelude.{ℕ, ◌+◌, ◌<◌, ◌≤◌, ◌≡◌, Bool, cond, List, ◌++◌, leb, length, take, drop}
+use Rattle.std.specs.Prelude.{ℕ, ◌+◌, ◌<◌, ◌≤◌, ◌≡◌, ◌↔◌, Bool, cond, List, ◌++◌, leb, length, take, drop, Option, IsSome, unwrap_or}
 
 module _ {A : Type 0} where
   -- a text is measured by a number: it is so long
@@ -40,3 +40,7 @@ NoSecondPut = (A : Type 0) (room : List A) (at : ℕ) (text a b : List A) (m n :
 -- whatever was put stands there whole or not at all, and the rest is kept
 abbrev pub PutsWhole : Type 1
 PutsWhole = (A : Type 0) (room : List A) (at : ℕ) (text after : List A) (next : ℕ) → Put room at text after next → WholeOrNothing room at text after next
+
+-- nor do a second room and a second answer, where the answer is the place behind the text if it fits, and none if not
+abbrev pub NoSecondPlace : Type 1
+NoSecondPlace = (A : Type 0) (room : List A) (at : ℕ) (text a b : List A) (m n : Option ℕ) → Put room at text a (unwrap_or m at) → (IsSome m ↔ (at + length text ≤ length room)) → Put room at text b (unwrap_or n at) → (IsSome n ↔ (at + length text ≤ length room)) → (a ≡ b) × (m ≡ n)

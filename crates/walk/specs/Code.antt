@@ -1,6 +1,6 @@
 -- Flags and ring as the code finds them, from the orders by V's corners. That they are the flags and the ring of the rules is proved (`is_ring`).
 -- Definitions only.
-use Rattle.std.specs.Prelude.{Bool, true, not, ◌&&◌, ◌||◌, cond, List, [], ◌∷◌, map, reverse, ℕ, ◌+◌, ◌-◌, ◌*◌, ◌/◌, ◌%◌, ◌^◌, eqb, ltb, get_or, set, take}
+use Rattle.std.specs.Prelude.{Bool, true, false, not, ◌&&◌, ◌||◌, cond, List, [], ◌∷◌, map, reverse, ℕ, ◌+◌, ◌-◌, ◌*◌, ◌/◌, ◌%◌, ◌^◌, eqb, ltb, get_or, set, take, Option, None, Some}
 use Rattle.std.specs.Int.Bits.{bit_and, bit_or, bit_xor}
 use Rattle.lines.specs.Lines.{corner_on, lower_line, upper_line, start, lower_end, sign, signs_at}
 use Rattle.table.specs.Table.{digit_of, flags_in, index_of, in_v_in}
@@ -70,14 +70,14 @@ abbrev pub coded : ℕ → PlaceCode
 coded k = record { code = k }
 
 unfoldable pub begun : Walk
-begun = record { places = coded 0 ∷ coded 0 ∷ coded 0 ∷ coded 0 ∷ coded 0 ∷ coded 0 ∷ []; n = 0; left = 3; first = 3 }
+begun = record { places = coded 0 ∷ coded 0 ∷ coded 0 ∷ coded 0 ∷ coded 0 ∷ coded 0 ∷ []; n = 0; left = None; first = None }
 
 -- a walk with one of its notes changed
-abbrev pub left_by : Walk → ℕ → Walk
+abbrev pub left_by : Walk → Option ℕ → Walk
 left_by w a = record { places = w.places; n = w.n; left = a; first = w.first }
 
 abbrev pub first_by : Walk → ℕ → Walk
-first_by w a = record { places = w.places; n = w.n; left = w.left; first = a }
+first_by w a = record { places = w.places; n = w.n; left = w.left; first = Some a }
 
 unfoldable pub pushed : Walk → Bool → ℕ → Walk
 pushed w test k = cond (test && ltb w.n 6) (record { places = set w.places w.n (coded k); n = w.n + 1; left = w.left; first = w.first }) w
@@ -100,27 +100,40 @@ cornered w k a =
     let w4 = pushed w3 (sign inside 1 && not (is_on_line 1 a)) 4 in
     pushed w4 (sign inside 2 && not (is_on_line 2 a)) 5
 
+-- V is entered by the line
+abbrev pub is_by : Option ℕ → ℕ → Bool
+is_by None a = false
+is_by (Some b) a = eqb b a
+
+-- between the crossing of line a, where V was left, and the next, where it is entered: V's corners, if any are in U and it is not entered by the same line
+unfoldable pub gap : Walk → ℕ → ℕ → Option ℕ → Walk
+gap w k a by = cond (not (eqb k 0) && not (is_by by a)) (cornered w k a) w
+
+-- the crossing of line a of edge e, where V is entered, after it was left by a line, if it was
+unfoldable pub entered : Walk → ℕ → ℕ → ℕ → Option ℕ → Walk
+entered w k e a None = first_by (pushed w true (6 + 3 * e + a)) a
+entered w k e a (Some left) = left_by (pushed (gap w k left (Some a)) true (6 + 3 * e + a)) None
+
 -- m: the line of edge e by which V is entered, or left, a digit; 0 where there is none
 unfoldable pub entering : Walk → ℕ → ℕ → ℕ → Walk
-entering w k e m =
-    let a = line_of_digit m in
-    cond (eqb m 0) w
-    (cond (eqb w.left 3) (first_by (pushed w true (6 + 3 * e + a)) a)
-    (cond (not (eqb k 0) && not (eqb w.left a)) (left_by (pushed (cornered w k w.left) true (6 + 3 * e + a)) 3)
-    (left_by (pushed w true (6 + 3 * e + a)) 3)))
+entering w k e m = cond (eqb m 0) w (entered w k e (line_of_digit m) w.left)
 
 unfoldable pub leaving : Walk → ℕ → ℕ → Walk
-leaving w e m = cond (eqb m 0) w (left_by (pushed w true (6 + 3 * e + line_of_digit m)) (line_of_digit m))
+leaving w e m = cond (eqb m 0) w (left_by (pushed w true (6 + 3 * e + line_of_digit m)) (Some (line_of_digit m)))
 
 -- s: the signs at the edge's start. on: its lines with a crossing on V's edge
 unfoldable pub along_edge : Walk → ℕ → ℕ → Bool → ℕ → ℕ → Walk
 along_edge w k e is_in s on = cond (eqb on 0) (pushed w is_in e) (leaving (entering (pushed w is_in e) k e (bit_and on (bit_xor s 7))) e (bit_and on s))
 
+-- after V was left by a line, if it was: it is entered next by the line of the beginning
+unfoldable pub closed : Walk → ℕ → Option ℕ → Walk
+closed w k None = w
+closed w k (Some left) = gap w k left w.first
+
 unfoldable pub closing : Walk → ℕ → Walk
 closing w k =
     let all = eqb k 7 in
-    cond (eqb w.n 0) (pushed (pushed (pushed w all 3) all 4) all 5)
-    (cond (not (eqb k 0) && (ltb w.left 3 && not (eqb w.left w.first))) (cornered w k w.left) w)
+    cond (eqb w.n 0) (pushed (pushed (pushed w all 3) all 4) all 5) (closed w k w.left)
 
 -- ---- the whole
 -- of what the edges tell of V's corners: V's corner on two lines is in U if the lower line has two crossings with different signs on the

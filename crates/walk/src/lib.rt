@@ -3,16 +3,18 @@
 #![tactic(auto)]
 
 ghost use Rattle.std.specs.Prelude.{◌≡◌, ◌<◌, ◌≤◌};
-ghost use Rattle.walk.specs.Code.{at_corner, edges_tell, lower_signs, begun, pushed, line_of_digit, is_on_line, cornered, entering, leaving, along_edge, closing, inside_of, neighbours_of, walk_of, flags_and_ring, beyond_a_line};
+ghost use Rattle.walk.specs.Code.{at_corner, edges_tell, lower_signs, begun, pushed, line_of_digit, is_on_line, cornered, gap, entering, leaving, along_edge, closing, inside_of, neighbours_of, walk_of, flags_and_ring, beyond_a_line};
 
-// A place of the ring, by number: U's vertices are 0, 1, 2, V's corners 3, 4, 5, and from 6 on each edge of U has three crossings, by line.
-#[derive(Clone, Copy)]
+// A place of the ring, by number, which fits a byte: U's vertices are 0, 1, 2, V's corners 3, 4, 5, and from 6 on each edge of U has three crossings, by line.
+// Stays a number: `flags_and_ring` and `is_ring`, which docs/PROMISES.md names, have the ring's places by number, six by value.
+#[derive(Clone, Copy, Debug, PartialEq, Eq)]
 pub struct PlaceCode {
     pub code: u8,
 }
 
 // The ring's first n places, and the nine flags.
-#[derive(Clone, Copy)]
+// Stays an array with its count, as in `Walk`: six places by value are the ring's form (docs/PROMISES.md).
+#[derive(Clone, Copy, Debug, PartialEq, Eq)]
 pub struct Ring {
     pub places: [PlaceCode; 6],
     pub n: usize,
@@ -29,16 +31,25 @@ struct Edges {
     beside: u16,
 }
 
-// The ring so far; the line by which V was left and not entered again yet, and the line by which it was entered before it was ever left, 3 where there is none.
+// The ring so far; the line by which V was left and not entered again yet, and the line by which it was entered before it was ever left.
 #[derive(Clone, Copy)]
 struct Walk {
     places: [PlaceCode; 6],
     n: usize,
-    left: u8,
-    first: u8,
+    left: Option<u8>,
+    first: Option<u8>,
 }
 
+// Nothing met yet.
+const BEGUN: Walk = Walk {
+    places: [PlaceCode { code: 0 }; 6],
+    n: 0,
+    left: None,
+    first: None,
+};
+
 // The last truth values of the digits, put where the digit of V's corners has the corner on lines a and b.
+#[tactic(auto, unfolding(crate::specs::Code::at_corner))]
 fn at_corner(m: u16, a: usize, b: usize) -> u16
     ensures { result ≡ at_corner m a b }
 {
@@ -47,6 +58,7 @@ fn at_corner(m: u16, a: usize, b: usize) -> u16
 
 // What the edges tell, from the signs at their lower ends, the lines that they cross, which are the last three digits of the entry, and their orders by corners. At the crossing of one line an edge's sign on
 // another is that at its higher end if the other was crossed before, and that at its lower end if not. All is done at the last truth value of each digit, 0o111.
+#[tactic(auto, unfolding(crate::specs::Code::edges_tell))]
 fn edges_tell(signs: u16, crossed: u16, before: u16) -> Edges
     ensures { result ≡ edges_tell signs crossed before }
 {
@@ -74,154 +86,158 @@ fn edges_tell(signs: u16, crossed: u16, before: u16) -> Edges
 }
 
 // The signs at the lower ends of U's edges, from which their orders are seen, put together as those of an index are.
+#[tactic(auto, unfolding(crate::specs::Code::lower_signs))]
 fn lower_signs(signs: [[bool; 3]; 3]) -> u16
     ensures { result ≡ lower_signs signs }
 {
-    let i = edges::lower_end(0);
-    let j = edges::lower_end(1);
-    let k = edges::lower_end(2);
-    let s = signs[i];
-    let t = signs[j];
-    let u = signs[k];
-    table::index_of([s, t, u])
-}
-
-// Nothing met yet.
-fn begin() -> Walk
-    ensures { result ≡ begun }
-{
-    Walk {
-        places: [PlaceCode { code: 0 }; 6],
-        n: 0,
-        left: 3,
-        first: 3,
-    }
-}
-
-// One more place, where the test holds and there is room.
-fn push(w: Walk, test: bool, code: u8) -> Walk
-    ensures { result ≡ pushed w test code }
-{
-    let n = w.n;
-    if test & (n < 6) {
-        let mut v = w;
-        v.places[n] = PlaceCode { code };
-        v.n = n + 1;
-        return v;
-    }
-    w
+    table::index_of([
+        signs[edges::lower_end(0)],
+        signs[edges::lower_end(1)],
+        signs[edges::lower_end(2)],
+    ])
 }
 
 // The line of a digit that has one.
+#[tactic(auto, unfolding(crate::specs::Code::line_of_digit))]
 fn line_of_digit(m: u16) -> u8
     ensures { (result ≡ line_of_digit m) × (result ≤ 2) }
 {
-    if m == 0o4 {
-        return 0;
+    match m {
+        0o4 => 0,
+        0o2 => 1,
+        _ => 2,
     }
-    if m == 0o2 {
-        return 1;
-    }
-    2
 }
 
 // Whether V's corner k lies on line a.
+#[tactic(auto, unfolding(crate::specs::Code::is_on_line))]
 fn on_line(k: usize, a: u8) -> bool
     ensures { result ≡ is_on_line k a }
 {
-    let line = a as usize;
+    let line = usize::from(a);
     (lines::line_of(k, 0) == line) | (lines::line_of(k, 1) == line)
 }
 
-// V's corners that are in U, a digit, after V was left by line a: first those on it.
-fn corners(w: Walk, inside: u16, a: u8) -> Walk
-    ensures { result ≡ cornered w inside a }
-{
-    let k = table::flags_of(inside);
-    let x = on_line(0, a);
-    let y = on_line(1, a);
-    let z = on_line(2, a);
-    let w0 = push(w, k[0] & x, 3);
-    let w1 = push(w0, k[1] & y, 4);
-    let w2 = push(w1, k[2] & z, 5);
-    let w3 = push(w2, k[0] & !x, 3);
-    let w4 = push(w3, k[1] & !y, 4);
-    push(w4, k[2] & !z, 5)
-}
+impl Walk {
+    // One more place, where the test holds and there is room.
+    #[tactic(auto, unfolding(crate::specs::Code::pushed))]
+    fn push(self, test: bool, code: u8) -> Walk
+        ensures { result ≡ pushed self test code }
+    {
+        if test & (self.n < 6) {
+            let mut v = self;
+            v.places[self.n] = PlaceCode { code };
+            v.n = self.n + 1;
+            return v;
+        }
+        self
+    }
 
-// The crossing of edge e where V is entered, by the line of the digit m, if it has one. Right before it stand those of V's corners, if any are in U, that belong
-// between it and the crossing by which V was left.
-fn enter(w: Walk, inside: u16, e: u8, m: u16) -> Walk
-    requires { e < 3 }
-    ensures { result ≡ entering w inside e m }
-{
-    if m == 0 {
-        return w;
+    // V's corners that are in U, a digit, after V was left by line a: first those on it.
+    #[tactic(auto, unfolding(crate::specs::Code::cornered))]
+    fn corners(self, inside: u16, a: u8) -> Walk
+        ensures { result ≡ cornered self inside a }
+    {
+        let k = table::flags_of(inside);
+        let x = on_line(0, a);
+        let y = on_line(1, a);
+        let z = on_line(2, a);
+        let w0 = self.push(k[0] & x, 3);
+        let w1 = w0.push(k[1] & y, 4);
+        let w2 = w1.push(k[2] & z, 5);
+        let w3 = w2.push(k[0] & !x, 3);
+        let w4 = w3.push(k[1] & !y, 4);
+        w4.push(k[2] & !z, 5)
     }
-    let a = line_of_digit(m);
-    let left = w.left;
-    if left == 3 {
-        let mut v = push(w, true, 6 + 3 * e + a);
-        v.first = a;
-        return v;
-    }
-    if (inside != 0) & (left != a) {
-        let mut v = push(corners(w, inside, left), true, 6 + 3 * e + a);
-        v.left = 3;
-        return v;
-    }
-    let mut v = push(w, true, 6 + 3 * e + a);
-    v.left = 3;
-    v
-}
 
-// The crossing of edge e where V is left, by the line of the digit m, if it has one.
-fn leave(w: Walk, e: u8, m: u16) -> Walk
-    requires { e < 3 }
-    ensures { result ≡ leaving w e m }
-{
-    if m == 0 {
-        return w;
+    // Between the crossing of the line `left`, where V was left, and that of the line `by`, where it is entered: V's corners, if any are in U and the lines are not the same.
+    // Always inlined: as a call it takes 7 instructions more a pair.
+    #[tactic(auto, unfolding(crate::specs::Code::gap))]
+    #[inline(always)]
+    fn gap(self, inside: u16, left: u8, by: Option<u8>) -> Walk
+        ensures { result ≡ gap self inside left by }
+    {
+        if (inside != 0) & (by != Some(left)) {
+            return self.corners(inside, left);
+        }
+        self
     }
-    let a = line_of_digit(m);
-    let mut v = push(w, true, 6 + 3 * e + a);
-    v.left = a;
-    v
-}
 
-// Along edge e, which starts with the signs s and has crossings on V's edges of the lines `on`: its start, if that is in V, then the crossing where V is
-// entered, then the one where it is left. V is entered where the start is minus, and left where it is plus, by one line each at most.
-fn along_edge(w: Walk, inside: u16, e: u8, is_in: bool, s: u16, on: u16) -> Walk
-    requires { e < 3 }
-    ensures { result ≡ along_edge w inside e is_in s on }
-{
-    let v = push(w, is_in, e);
-    if on == 0 {
-        return v;
+    // The crossing of edge e where V is entered, by the line of the digit m, if it has one. Right before it stand those of V's corners, if any are in U, that belong
+    // between it and the crossing by which V was left.
+    #[tactic(auto, unfolding(crate::specs::Code::entering, crate::specs::Code::entered))]
+    fn enter(self, inside: u16, e: u8, m: u16) -> Walk
+        requires { e < 3 }
+        ensures { result ≡ entering self inside e m }
+    {
+        if m == 0 {
+            return self;
+        }
+        let a = line_of_digit(m);
+        let code = 6 + 3 * e + a;
+        match self.left {
+            None => Walk {
+                first: Some(a),
+                ..self.push(true, code)
+            },
+            Some(left) => Walk {
+                left: None,
+                ..self.gap(inside, left, Some(a)).push(true, code)
+            },
+        }
     }
-    leave(enter(v, inside, e, on & (s ^ 0o7)), e, on & s)
-}
 
-// The end of the walk. Where nothing was met the ring is V's corners, if they are in U. Else the walk goes on at its beginning: V was left, and the
-// line by which it is entered next is the first.
-fn close(w: Walk, inside: u16) -> Walk
-    ensures { result ≡ closing w inside }
-{
-    let n = w.n;
-    let left = w.left;
-    let first = w.first;
-    if n == 0 {
-        let all = inside == 0o7;
-        return push(push(push(w, all, 3), all, 4), all, 5);
+    // The crossing of edge e where V is left, by the line of the digit m, if it has one.
+    #[tactic(auto, unfolding(crate::specs::Code::leaving))]
+    fn leave(self, e: u8, m: u16) -> Walk
+        requires { e < 3 }
+        ensures { result ≡ leaving self e m }
+    {
+        if m == 0 {
+            return self;
+        }
+        let a = line_of_digit(m);
+        Walk {
+            left: Some(a),
+            ..self.push(true, 6 + 3 * e + a)
+        }
     }
-    if (inside != 0) & ((left < 3) & (left != first)) {
-        return corners(w, inside, left);
+
+    // Along edge e, which starts with the signs s and has crossings on V's edges of the lines `on`: its start, if that is in V, then the crossing where V is
+    // entered, then the one where it is left. V is entered where the start is minus, and left where it is plus, by one line each at most.
+    // Stays with an edge's number below 3, as `enter` and `leave` do: an enum of edges would be turned into that number at each place.
+    #[tactic(auto, unfolding(crate::specs::Code::along_edge))]
+    fn along_edge(self, inside: u16, e: u8, is_in: bool, s: u16, on: u16) -> Walk
+        requires { e < 3 }
+        ensures { result ≡ along_edge self inside e is_in s on }
+    {
+        let v = self.push(is_in, e);
+        if on == 0 {
+            return v;
+        }
+        v.enter(inside, e, on & (s ^ 0o7)).leave(e, on & s)
     }
-    w
+
+    // The end of the walk. Where nothing was met the ring is V's corners, if they are in U. Else the walk goes on at its beginning: V was left, and the
+    // line by which it is entered next is the first.
+    #[tactic(auto, unfolding(crate::specs::Code::closing, crate::specs::Code::closed))]
+    fn close(self, inside: u16) -> Walk
+        ensures { result ≡ closing self inside }
+    {
+        if self.n == 0 {
+            let all = inside == 0o7;
+            return self.push(all, 3).push(all, 4).push(all, 5);
+        }
+        match self.left {
+            Some(left) => self.gap(inside, left, self.first),
+            None => self,
+        }
+    }
 }
 
 // Which of V's corners are in U, from what the edges tell: a corner is, if one alone of its lower line's two crossings is on the plus side of its
 // upper line.
+#[tactic(auto, unfolding(crate::specs::Code::inside_of))]
 fn inside_of(beside: u16) -> u16
     ensures { result ≡ inside_of beside }
 {
@@ -229,6 +245,7 @@ fn inside_of(beside: u16) -> u16
 }
 
 // V's edges that have a crossing on them, or at one end a corner that is in U: the ends of an edge are the corners that its line has with the two others.
+#[tactic(auto, unfolding(crate::specs::Code::neighbours_of))]
 fn neighbours_of(on: u16, inside: [bool; 3]) -> [bool; 3]
     ensures { result ≡ neighbours_of on inside }
 {
@@ -243,22 +260,21 @@ fn neighbours_of(on: u16, inside: [bool; 3]) -> [bool; 3]
 }
 
 // The walk along the three edges, each from its start, and its end.
+#[tactic(auto, unfolding(crate::specs::Code::walk_of, crate::specs::Code::begun))]
 fn walk_of(signs: [[bool; 3]; 3], u_in_v: [bool; 3], on: u16, inside: u16) -> Walk
     ensures { result ≡ walk_of signs u_in_v on inside }
 {
     let i = lines::end_of(0, 0);
     let j = lines::end_of(1, 0);
     let k = lines::end_of(2, 0);
-    let s = signs[i];
-    let t = signs[j];
-    let u = signs[k];
-    let w0 = along_edge(begin(), inside, 0, u_in_v[i], table::digit_of(s), on / 64);
-    let w1 = along_edge(w0, inside, 1, u_in_v[j], table::digit_of(t), on / 8 % 8);
-    let w2 = along_edge(w1, inside, 2, u_in_v[k], table::digit_of(u), on % 8);
-    close(w2, inside)
+    let w0 = BEGUN.along_edge(inside, 0, u_in_v[i], table::digit_of(signs[i]), on / 64);
+    let w1 = w0.along_edge(inside, 1, u_in_v[j], table::digit_of(signs[j]), on / 8 % 8);
+    let w2 = w1.along_edge(inside, 2, u_in_v[k], table::digit_of(signs[k]), on % 8);
+    w2.close(inside)
 }
 
 // Flags and ring, of the signs of U's three vertices, of their entry in the table, and of the orders along U's three edges, each seen from its lower vertex, by V's corners.
+#[tactic(auto, unfolding(crate::specs::Code::flags_and_ring))]
 pub fn flags_and_ring(signs: [[bool; 3]; 3], entry: u16, before: [u16; 3]) -> Ring
     ensures { result ≡ flags_and_ring signs entry before }
 {
@@ -272,11 +288,11 @@ pub fn flags_and_ring(signs: [[bool; 3]; 3], entry: u16, before: [u16; 3]) -> Ri
     let u_in_v = table::vertices_in(entry);
     let v_in_u = table::flags_of(inside);
     let w = walk_of(signs, u_in_v, on, inside);
+    // (a literal takes no array straight from a field)
     let places = w.places;
-    let n = w.n;
     Ring {
         places,
-        n,
+        n: w.n,
         u_in_v,
         v_in_u,
         neighbour: neighbours_of(on, v_in_u),

@@ -1,4 +1,4 @@
--- What is said of a file stands whole at the front of a room of 256,546 bytes, and is its line where the file is refused. Assumes nothing.
+-- What is said of a file stands whole at the front of a room of 256,546 bytes. Assumes nothing.
 use Prim.Native.Nat.{ℕ, ◌<◌, ◌≤◌}
 use mathlib.Core.Path.{◌≡◌, refl, sym, ap, subst, ◌∙◌}
 use mathlib.Core.Bool.{Bool, true, false}
@@ -21,7 +21,7 @@ use Rattle.chart.proofs.Recorded.{ids_numbered}
 use Rattle.chart.proofs.Widest.{always_enough}
 use Rattle.chart.proofs.Returned.{by_file_lem, by_id_lem, past_id, in_whole, show_returned}
 use Rattle.wording.proofs.Lines.{refused_short}
-use Rattle.input.specs.Answer.{AtFront, ByRefusal}
+use Rattle.input.specs.Answer.{AtFront}
 use Rattle.wkt.specs.Answer.{text_or_line, output_of, Outputs}
 
 -- ---- the three outputs
@@ -37,9 +37,6 @@ module _ (id : ℕ) (file : List ℕ) where
   text_is : (verdict file).number ≡ 0 → number_with file id < count_of file → output_of id file ≡ recording_text file (number_with file id) ++ feed
   unfolding output_of text_or_line
   text_is z h = not_refused file refused_line (text_or_line id file) z ∙ rw (lt-ltb (number_with file id) (count_of file) h) refl
-
-pub line_of_refused : (id : ℕ) → ByRefusal refused_line (output_of id)
-line_of_refused id file h = refused_is id file h
 
 pub outputs : Outputs
 outputs id file = record {

@@ -2,18 +2,15 @@
 // Where a read fails the file has not ended: then nothing is written but a line on standard error. So it is where the argument is no id.
 #![tactic(auto)]
 
-ghost use Rattle.std.specs.Prelude.{◌≡◌, ◌≤◌, length, take};
-ghost use Rattle.listing.specs.Words.{refused_line};
-ghost use Rattle.input.specs.Answer.{AtFront, said_by, output_for, Replied};
-ghost use Rattle.wkt.specs.Answer.{output_of};
+ghost use Rattle.std.specs.Prelude.{◌≡◌, ◌≤◌, length};
+ghost use Rattle.std.proofs.Common.{rules};
+ghost use Rattle.input.specs.Answer.{Replied};
+ghost use Rattle.wkt.specs.Answer.{text_or_line, output_of};
 
-use arrival::{Arrival, State};
-use input::{Got, Reply};
+use arrival::SIZE;
+use input::{Command, Reply};
 use std::env::{Env, FillError};
 use std::io::Read;
-
-// The length of the buffer that a file arrives in.
-const SIZE: usize = 65536;
 
 // No text has more bytes, with its line feed.
 const ROOM: usize = 256546;
@@ -27,42 +24,24 @@ fn empty_room() -> [u8; ROOM]
     [0; ROOM]
 }
 
-// What is to be said of a file, at the front of the room, and its length.
-fn output(file: &[u8], id: u32, room: &mut [u8; ROOM]) -> usize
-    ensures { AtFront (output_of id file.now) room.old result room.new }
-{
-    let a = showing::wkt(file, id, room);
-    if a.number != 0 {
-        return wording::put_refusal(room, a.number, a.place);
-    }
-    text::put_bytes(room, a.length, b"\n")
+// The command that says the well-known text of the recording with an id.
+#[derive(Clone, Copy)]
+struct WellKnownText {
+    id: u32,
 }
 
-// What is to be said by what the end answered: of a refused file its line, else of the file at the buffer's front.
-fn said(a: Arrival, buffer: &[u8; SIZE], id: u32, room: &mut [u8; ROOM]) -> usize
-    ensures { AtFront (said_by refused_line (output_of id) a buffer.now) room.old result room.new }
-{
-    if a.number != 0 {
-        return wording::put_refusal(room, a.number, a.place);
-    }
-    let n = a.arrived as usize;
-    output(text::front(buffer, n), id, room)
-}
+impl Command<ROOM> for WellKnownText {
+    ghost answers = { λ c. text_or_line c.id };
 
-// What is to be said of the input, of which so much has arrived in the buffer: nothing, where a read failed.
-fn answer(g: Got, buffer: &[u8; SIZE], id: u32, room: &mut [u8; ROOM]) -> usize
-    ensures { AtFront (output_for refused_line (output_of id) g buffer.now) room.old result room.new }
-{
-    let arrived = g.arrived;
-    if input::is_read(g) {
-        return said(
-            arriving::end(State { arrived, ended: 0 }, buffer),
-            buffer,
-            id,
-            room,
-        );
+    fn put(&self, file: &[u8], room: &mut [u8; ROOM]) -> usize {
+        let a = showing::wkt(file, self.id, room);
+        if a.number != 0 {
+            return wording::put_refusal(room, a.number, a.place).unwrap_or(0);
+        }
+        text::put_bytes(room, a.length, b"\n").unwrap_or(a.length)
     }
-    0
+
+    ghost has_room = { Prim.search rules };
 }
 
 // Takes the input into the buffer as it arrives, and puts what is to be said of it at the front of the room.
@@ -74,16 +53,7 @@ fn reply_to<R: Read>(
 ) -> Reply
     ensures { Replied (output_of id) buffer.old room.old result buffer.new room.new }
 {
-    let got = input::read_all(reader, buffer);
-    let n = answer(got, buffer, id, room);
-    Reply { got, n }
-}
-
-// The first n bytes of the room.
-fn text(room: &[u8; ROOM], n: usize) -> &[u8]
-    ensures { result.now ≡ take n room.now }
-{
-    text::front(room, n)
+    input::reply_to(&WellKnownText { id }, reader, buffer, room)
 }
 
 // What the program does where its argument is an id.
@@ -91,12 +61,10 @@ fn run(rt: &HostRuntime, id: u32) {
     let mut buffer = [0u8; SIZE];
     let mut room = empty_room();
     let r = reply_to(&mut rt.stdin(), &mut buffer, id, &mut room);
-    let n = r.n;
-    let got = r.got;
-    if rt.write_all(text(&room, n)).is_err() {
+    if rt.write_all(text::front(&room, r.n)).is_err() {
         let _ = eprintln!(rt; "wkt: writing failed");
     }
-    if !input::is_read(got) {
+    if !input::is_read(r.got) {
         let _ = eprintln!(rt; "wkt: reading failed");
     }
 }
@@ -105,38 +73,27 @@ fn run(rt: &HostRuntime, id: u32) {
 fn word_at<E: Env>(env: &E, i: usize, space: &mut [u8]) -> usize
     ensures { result ≤ length space.new }
 {
-    match env.arg(i, space) {
-        Ok(n) => n,
-        Err(_) => 0,
-    }
+    env.arg(i, space).unwrap_or(0)
 }
 
 // Whether the command has a word i.
 fn is_given<E: Env>(env: &E, i: usize) -> bool {
     let mut space = [0u8; WORD];
-    match env.arg(i, &mut space) {
-        Err(FillError::NotPresent) => false,
-        _ => true,
-    }
+    !matches!(env.arg(i, &mut space), Err(FillError::NotPresent))
 }
 
 // How many words the command has, its own name among them; 3 if it has more.
 fn word_count<E: Env>(env: &E) -> usize {
-    for i in 0..3 {
-        if !is_given(env, i) {
-            return i;
-        }
-    }
-    3
+    (0..3).take_while(|i| is_given(env, *i)).count()
 }
 
 fn main(rt: HostRuntime) {
     let mut word = [0u8; WORD];
     let n = word_at(&rt, 1, &mut word);
-    let i = words::asked(word_count(&rt), &word[0..n]);
-    if i.there {
-        run(&rt, i.id);
-    } else {
-        let _ = eprintln!(rt; "usage: wkt ID <FILE");
+    match words::asked(word_count(&rt), &word[..n]) {
+        Some(id) => run(&rt, id),
+        None => {
+            let _ = eprintln!(rt; "usage: wkt ID <FILE");
+        }
     }
 }

@@ -1,7 +1,7 @@
 -- The lines of lists and refusals: how long they are, and that their words and numbers, one behind the other, are the lines. Assumes nothing.
 use Prim.Native.Nat.{ℕ, ◌+◌, ◌<◌, ◌≤◌}
-use mathlib.Core.Path.{◌≡◌, refl, sym, ap, ◌∙◌}
-use mathlib.Core.List.{List, ◌++◌, append_assoc}
+use mathlib.Core.Path.{◌≡◌, refl}
+use mathlib.Core.List.{List, ◌++◌}
 use native.Mathlib.Omega.{arith}
 use lib.ListN.{length, length-append}
 use Rattle.text.specs.Decimal.{decimal}
@@ -15,13 +15,11 @@ pub line_length : (t r n : ℕ) → length (leak_line_of t r n) ≡ 20 + length 
 unfolding leak_line
 line_length t r n = simp length-append (omega arith)
 
-pub line_is : (t r n : ℕ) → ((test_word ++ decimal t) ++ (train_word ++ decimal r)) ++ (pairs_word ++ decimal n) ++ feed ≡ leak_line_of t r n
+pub line_is : (t r n : ℕ) → test_word ++ decimal t ++ train_word ++ decimal r ++ pairs_word ++ decimal n ++ feed ≡ leak_line_of t r n
 unfolding leak_line
-line_is t r n =
-    ap (λ y. y ++ (pairs_word ++ decimal n) ++ feed) (sym (append_assoc (test_word ++ decimal t) train_word (decimal r)))
-    ∙ ap (λ y. y ++ feed) (sym (append_assoc (test_word ++ decimal t ++ train_word ++ decimal r) pairs_word (decimal n)))
+line_is t r n = refl
 
-pub count_is : (word : List ℕ) (k : ℕ) → (word ++ decimal k) ++ feed ≡ count_line word k
+pub count_is : (word : List ℕ) (k : ℕ) → word ++ decimal k ++ feed ≡ count_line word k
 unfolding count_line
 count_is word k = refl
 
@@ -44,6 +42,6 @@ refused_short n p h k =
     let e = refused_length n p in
     omega (arith, e, width_most 9 n (omega (arith, h)), width_most 9 p (omega (arith, k)))
 
-pub refused_is : (n p : ℕ) → ((refused_word ++ decimal n) ++ (at_word ++ decimal p)) ++ feed ≡ refused_line (number_at n p)
+pub refused_is : (n p : ℕ) → refused_word ++ decimal n ++ at_word ++ decimal p ++ feed ≡ refused_line (number_at n p)
 unfolding refused_line
-refused_is n p = ap (λ y. y ++ feed) (sym (append_assoc (refused_word ++ decimal n) at_word (decimal p)))
+refused_is n p = refl

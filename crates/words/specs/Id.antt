@@ -1,7 +1,11 @@
 -- 02, No. 6, as a command has it: which words are ids. Definitions and statements.
-use Rattle.std.specs.Prelude.{ℕ, ◌<◌, ◌≡◌, ◌↔◌, Bool, true, false, ◌&&◌, cond, List, [], ◌∷◌, eqb, ltb}
+use Rattle.std.specs.Prelude.{ℕ, ◌+◌, ◌-◌, ◌*◌, ◌<◌, ◌≡◌, ◌↔◌, Bool, true, false, ◌&&◌, cond, List, [], ◌∷◌, eqb, ltb, Option, Some, None}
 use Rattle.text.specs.Decimal.{decimal, read_on, read}
-use Rattle.words.specs.declared.Id.{Id}
+
+-- what a word is taken for: the id that it is, or none, and then 0 stands beside it
+pub record Id : Type 0 where
+  pub there : Bool
+  pub id : ℕ
 
 -- a word is an id: the decimal of a number below 2^32
 pub record IsId (word : List ℕ) (n : ℕ) : Type 0 where
@@ -15,13 +19,30 @@ same [] (y ∷ ys) = false
 same (x ∷ xs) [] = false
 same (x ∷ xs) (y ∷ ys) = eqb x y && same xs ys
 
--- the number that bytes stand for as digits, or 2^32 where that is more
-unfoldable pub capped : List ℕ → ℕ
+-- a number, where it is below 2^32
+abbrev pub in_range : ℕ → Option ℕ
+in_range n = cond (ltb n 4294967296) (Some n) None
+
+-- the number behind so much of a word, with one more byte as a digit
+abbrev pub one_more : ℕ → ℕ → Option ℕ
+one_more n b = in_range (10 * n + (b - 48))
+
+-- the number that bytes stand for as digits, where it is below 2^32
+unfoldable pub number_in : List ℕ → Option ℕ
 unfolding read_on
-capped word = cond (ltb (read word) 4294967296) (read word) 4294967296
+number_in word = in_range (read word)
 
 abbrev pub no_id : Id
 no_id = record { there = false; id = 0 }
+
+-- the same, of an id or none as the code has it
+abbrev pub told : Option ℕ → Id
+told None = no_id
+told (Some n) = record { there = true; id = n }
+
+-- no second answer of the code is told as the same
+abbrev pub NoSecondTold : Type 0
+NoSecondTold = (a b : Option ℕ) → told a ≡ told b → a ≡ b
 
 -- what a word is taken for: it is read as digits, and is an id if that number is in range and its decimal is the word
 unfoldable pub id_of : List ℕ → Id

@@ -1,9 +1,8 @@
--- Leaks as triples of numbers, one behind the other, their lines, and what is promised of writing their list. Definitions and a statement.
-use Rattle.std.specs.Prelude.{ℕ, zero, suc, ◌+◌, ◌*◌, ◌/◌, ◌≡◌, cond, List, [], ◌∷◌, ◌++◌, ltb, length, get_or}
+-- Leaks as triples of numbers, one behind the other, and what is promised of writing their list. Definitions and a statement.
+use Rattle.std.specs.Prelude.{ℕ, zero, suc, ◌+◌, ◌*◌, ◌/◌, ◌≡◌, List, [], ◌∷◌, ◌++◌, length, min, get_or}
 use Rattle.listing.specs.declared.Listed.{Listed}
 use Rattle.listing.specs.declared.Counts.{Counts}
 use Rattle.listing.specs.Leaks.{Leak, Beside}
-use Rattle.listing.specs.Words.{leak_line}
 use Rattle.listing.specs.Listing.{list_from}
 
 -- triple k, from 0, as a leak: two ids and N
@@ -15,18 +14,17 @@ unfoldable pub leaks_in : List ℕ → ℕ → List Leak
 leaks_in found zero = []
 leaks_in found (suc k) = leaks_in found k ++ (leak_at found k ∷ [])
 
--- and their lines
-unfoldable pub lines_in : List ℕ → ℕ → List ℕ
-lines_in found zero = []
-lines_in found (suc k) = lines_in found k ++ leak_line (leak_at found k)
-
--- the lesser of two numbers
-abbrev pub lesser : ℕ → ℕ → ℕ
-lesser a b = cond (ltb a b) a b
-
 -- of k leaks those that there are numbers for, and 4,096 at most: 64 times 64, more than any file has
 unfoldable pub held_in : List ℕ → ℕ → ℕ
-held_in found k = lesser k (lesser (length found / 3) 4096)
+held_in found k = min k (min (length found / 3) 4096)
+
+-- three numbers as a leak
+abbrev pub leak_of : List ℕ → Leak
+leak_of triple = record { test = get_or triple 0 0; train = get_or triple 1 0; pairs = get_or triple 2 0 }
+
+-- of k leaks those that there are triples for, likewise
+abbrev pub held : List (List ℕ) → ℕ → ℕ
+held found k = min k (min (length found) 4096)
 
 -- what is counted beside them, and how many recordings were formerly held back
 abbrev pub beside_in : Counts → ℕ → Beside

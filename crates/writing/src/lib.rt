@@ -1,104 +1,95 @@
 // The list of leaks that were found, in a room: measured whole, then put whole, or refused.
 #![tactic(auto)]
 
-ghost use Rattle.std.specs.Prelude.{◌≡◌, [], ◌+◌, ◌*◌, ◌≤◌, length};
+ghost use Rattle.std.specs.Prelude.{◌≡◌, ◌↔◌, [], map, ◌+◌, ◌*◌, ◌≤◌, length, take, IsSome, IsSomeAnd, unwrap_or};
 ghost use Rattle.layout.specs.Verdict.{number_at};
 ghost use Rattle.text.specs.Room.{Measured, Put};
-ghost use Rattle.listing.specs.Words.{text_of};
+ghost use Rattle.listing.specs.Words.{leak_lines, text_of};
 ghost use Rattle.listing.specs.Listing.{no_list};
-ghost use Rattle.writing.specs.Triples.{leaks_in, lines_in, lesser as lesser_of, held_in, beside_in, WrittenAs};
+ghost use Rattle.writing.specs.Triples.{leak_of, leaks_in, held, held_in, beside_in, WrittenAs};
+
+use listing::{Counts, Listed};
 
 // A refusal: its number and its place, with zeros.
-pub fn no_list(number: u32, place: u32) -> listing::Listed
+pub fn no_list(number: u32, place: u32) -> Listed
     ensures { result ≡ (no_list [] (number_at number place)).result }
 {
-    listing::Listed {
+    Listed {
         number,
         place,
-        length: 0,
-        leaks: 0,
-        touching: 0,
-        tested: 0,
-        formerly_held_back: 0,
+        ..Listed::default()
     }
 }
 
-// The lesser of two numbers.
-fn lesser(a: usize, b: usize) -> usize
-    ensures { (result ≡ lesser_of a b) × (result ≤ a) × (result ≤ b) }
-{
-    if a < b {
-        return a;
-    }
-    b
-}
-
-// The length of the first k leak lines.
-fn lines_length(found: &[u32], k: usize) -> usize
-    requires { (k ≤ 4096) × (3 * k ≤ length found.now) }
-    ensures { Measured (lines_in found.now k) result × (result ≤ 20000000000 * k) }
+// The length of the leak lines of triples, each of two ids and N.
+fn lines_length(triples: &[[u32; 3]]) -> usize
+    requires { length triples.now ≤ 4096 }
+    ensures { Measured (leak_lines (map leak_of triples.now)) result × (result ≤ 20000000000 * length triples.now) }
 {
     let mut sum: usize = 0;
-    let mut c: usize = 0;
-    while c < k {
-        let at = 3 * c;
-        sum = sum + wording::line_length(found[at], found[at + 1], found[at + 2]);
-        c = c + 1;
+    for &[test, train, pairs] in triples {
+        sum += wording::line_length(test, train, pairs);
     }
     sum
 }
 
-// The first k leak lines, for which there is room, from a place on; the place behind them.
-fn put_lines(room: &mut [u8], at: usize, found: &[u32], k: usize) -> usize
-    requires { (k ≤ 4096) × (3 * k ≤ length found.now) × (at + length (lines_in found.now k) ≤ length room.old) }
-    ensures { Put room.old at (lines_in found.now k) room.new result }
+// Those lines, for which there is room, from a place on; the place behind them.
+fn put_lines(room: &mut [u8], at: usize, triples: &[[u32; 3]]) -> Option<usize>
+    requires { at + length (leak_lines (map leak_of triples.now)) ≤ length room.old }
+    ensures { IsSomeAnd result (Put room.old at (leak_lines (map leak_of triples.now)) room.new) }
 {
-    let mut to = at;
-    let mut done: usize = 0;
-    while done < k {
-        let p = 3 * done;
-        to = wording::put_line(room, to, found[p], found[p + 1], found[p + 2]);
-        done = done + 1;
+    let mut next = at;
+    for &[test, train, n] in triples {
+        next = wording::put_line(room, next, test, train, n)?;
     }
-    to
+    Some(next)
 }
 
-// The list of the first k leaks, with so many pairs of recordings that only touch and so many recordings that were formerly held back, at the front of the room, and its length. Where it does not fit, nothing is put, and the length is 0.
-fn put_list(room: &mut [u8], found: &[u32], k: usize, touching: u32, formerly: u32) -> usize
-    requires { (k ≤ 4096) × (3 * k ≤ length found.now) }
-    ensures { Put room.old 0 (text_of (leaks_in found.now k) touching formerly) room.new result }
+// The list of these leaks, with so many pairs of recordings that only touch and so many recordings that were formerly held back, at the front of the room, and its length. Where it does not fit, nothing is put.
+fn put_list(room: &mut [u8], triples: &[[u32; 3]], touching: u32, formerly: u32) -> Option<usize>
+    requires { length triples.now ≤ 4096 }
+    ensures placed { Put room.old 0 (text_of (map leak_of triples.now) touching formerly) room.new (unwrap_or result 0) }
+    ensures fits { IsSome result ↔ (length (text_of (map leak_of triples.now) touching formerly) ≤ length room.old) }
 {
-    let count = k as u32;
+    let count = triples.len() as u32;
     let first = wording::first_length(count);
     let behind = wording::touching_length(touching);
     let last = wording::formerly_length(formerly);
-    let size = first + lines_length(found, k) + behind + last;
+    let size = first + lines_length(triples) + behind + last;
     if room.len() < size {
-        return 0;
+        return None;
     }
-    let p = wording::put_first(room, count);
-    let q = put_lines(room, p, found, k);
-    let r = wording::put_touching(room, q, touching);
+    let p = wording::put_first(room, count)?;
+    let q = put_lines(room, p, triples)?;
+    let r = wording::put_touching(room, q, touching)?;
     wording::put_formerly(room, r, formerly)
 }
 
-// The list of the leaks that were found, of as many as there are numbers for and 4,096 at most, with what was counted beside them and how many recordings were formerly held back; or refusal 7 where the room is shorter than the list, and the room as it was.
-pub fn write(room: &mut [u8], found: &[u32], c: listing::Counts, formerly: u32) -> listing::Listed
-    ensures { WrittenAs (leaks_in found.now (held_in found.now c.leaks)) (beside_in c formerly) room.old result room.new }
+// The list of the leaks that were found, each as two ids and N, of as many as there are and 4,096 at most, with what was counted beside them and how many recordings were formerly held back; or refusal 7 where the room is shorter than the list, and the room as it was.
+// Stays a triple for a leak: `write` (docs/PROMISES.md) has numbers, and each three of those are seen as a triple, not as a struct, without a copy.
+pub fn write_triples(room: &mut [u8], found: &[[u32; 3]], c: Counts, formerly: u32) -> Listed
+    ensures { WrittenAs (map leak_of (take (held found.now c.leaks) found.now)) (beside_in c formerly) room.old result room.new }
 {
-    let n = lesser(c.leaks as usize, lesser(found.len() / 3, 4096));
-    let size = put_list(room, found, n, c.touching, formerly);
-    // No list is empty, so nothing was put.
-    if size == 0 {
+    let n = (c.leaks as usize).min(found.len().min(4096));
+    let Some(length) = put_list(room, &found[..n], c.touching, formerly) else {
         return no_list(7, 0);
-    }
-    listing::Listed {
+    };
+    Listed {
         number: 0,
         place: 0,
-        length: size,
+        length,
         leaks: n as u32,
         touching: c.touching,
         tested: c.tested,
         formerly_held_back: formerly,
     }
+}
+
+// The same of numbers, of which each three in turn are a leak.
+// Stays beside it: docs/PROMISES.md promises it of any numbers (`writing::write`, `no_second_written`), also of one or two that are left over.
+pub fn write(room: &mut [u8], found: &[u32], c: Counts, formerly: u32) -> Listed
+    ensures { WrittenAs (leaks_in found.now (held_in found.now c.leaks)) (beside_in c formerly) room.old result room.new }
+{
+    let (triples, _) = found.as_chunks::<3>();
+    write_triples(room, triples, c, formerly)
 }

@@ -3,13 +3,8 @@ use Rattle.arrival.specs.Calls.{the_end}
 use Rattle.arriving.proofs.Said.{refused_call, end_said}
 use Rattle.arriving.proofs.end.Goals as goal
 
-pub returns-then-number-ne0 : goal.returns-then-number-ne0
-returns-then-number-ne0 c =
-    let g = c.args in
-    refused_call g.s g.buffer.now c.refusal-number.result c.refusal-number.ensures the_end c.if-number-ne0.true c.refused.ensures
+pub returns-in-Err : goal.returns-in-Err
+returns-in-Err c = refused_call c.args.s c.args.buffer.now the_end c.in-Err.why c.in-Err.ensures c.refused.ensures
 
 pub returns : goal.returns
-returns c =
-    let g = c.args in
-    let refusal = c.refusal-number in
-    end_said g.s g.buffer.now refusal.result refusal.ensures c.if-number-ne0.false c.judged-v.ensures c.count-arrived.ensures
+returns c = end_said c.args.s c.args.buffer.now c.in_default.ensures c.judged-v.ensures c.count-arrived.ensures

@@ -5,7 +5,7 @@ use Rattle.arrival.proofs.Returned.{judged_file, judged_long}
 use Rattle.arriving.proofs.judged.Goals as goal
 
 pub returns-then-n-gt-SIZE : goal.returns-then-n-gt-SIZE
-returns-then-n-gt-SIZE c = let g = c.args in sym (judged_long g.arrived g.buffer.now c.if-n-gt-SIZE.true)
+returns-then-n-gt-SIZE c = let g = c.args in c.from.ensures ∙ sym (judged_long g.arrived g.buffer.now c.if-n-gt-SIZE.true)
 
 pub returns : goal.returns
 returns c =

@@ -10,7 +10,7 @@ pub returns-then-at-size : goal.returns-then-at-size
 returns-then-at-size c =
     let g = c.args in
     let room = c.if-at-size.true in
-    c.put_bytes.ensures.after_is
+    c.put_bytes.ensures.placed.after_is
     ∙ (ap (laid g.buffer.now g.at) c.front.ensures ∙ laid_as_put g.buffer.now g.bytes.now g.at (omega (arith, room)))
 
 pub returns-else-at-size : goal.returns-else-at-size

@@ -8,6 +8,3 @@ use Rattle.cases.proofs.bytes_of.Given as goal
 
 abbrev pub invariant-loop-k : goal.invariant-loop-k
 invariant-loop-k l = (l.k ≤ l.n) × (length l.room ≡ length l.initial.room) × (sets l.room l.k (bytes_from l.text (l.n - l.k) l.k) ≡ sets l.initial.room 0 (bytes_from l.text l.n 0))
-
-abbrev pub decreases-loop-k : goal.decreases-loop-k
-decreases-loop-k l = l.n - l.k

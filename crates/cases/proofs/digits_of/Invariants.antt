@@ -8,6 +8,3 @@ use Rattle.cases.proofs.digits_of.Given as goal
 
 abbrev pub invariant-loop-k : goal.invariant-loop-k
 invariant-loop-k l = (l.k ≤ l.n) × (length l.room ≡ length l.initial.room) × (sets l.room (2 * l.k) (digits_from l.bytes (l.n - l.k) l.k) ≡ sets l.initial.room 0 (digits_from l.bytes l.n 0))
-
-abbrev pub decreases-loop-k : goal.decreases-loop-k
-decreases-loop-k l = l.n - l.k

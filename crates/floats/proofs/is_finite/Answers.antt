@@ -1,28 +1,16 @@
--- x lies between the two infinities exactly if it is finite.
-use mathlib.Core.Path.{◌≡◌, refl}
-use mathlib.Core.Bool.{true, false}
-use lib.Ieee.{Float, nan, inf, fin, lt, div, neg, of_bits}
+-- std's word says it of each of the three kinds of value, as the rules do.
+use Rattle.std.proofs.Common.{◌≡◌, refl}
+use mathlib.Core.Path.{◌∙◌}
+use Rattle.std.specs.Float.{float_is_finite, nan, inf, fin}
+use Rattle.std.specs.Prelude.{Float}
 use Rattle.floats.specs.Finite.{finite}
 use Rattle.floats.proofs.is_finite.Goals as goal
 
-above : (x : Float) → lt (inf true) x ≡ true → lt x (inf false) ≡ finite x
-unfolding lt
-above nan h = refl
-above (inf true) h = cc
-above (inf false) h = refl
-above (fin s m e) h = refl
+same : (x : Float) → float_is_finite x ≡ finite x
+unfolding float_is_finite
+same nan = refl
+same (inf s) = refl
+same (fin s m e) = refl
 
-below : (x : Float) → lt (inf true) x ≡ false → lt (inf true) x ≡ finite x
-unfolding lt
-below nan h = refl
-below (inf true) h = refl
-below (inf false) h = cc
-below (fin s m e) h = refl
-
-pub returns-then-low-x : goal.returns-then-low-x
-unfolding div neg of_bits
-returns-then-low-x c = above c.args.x c.if-low-x.true
-
-pub returns-else-low-x : goal.returns-else-low-x
-unfolding div neg of_bits
-returns-else-low-x c = below c.args.x c.if-low-x.false
+pub returns : goal.returns
+returns c = c.is_finite.ensures.value ∙ same c.args.x

@@ -2,11 +2,11 @@
 use Rattle.front.proofs.Boxes.{other_length, sharing, sharing_none}
 use Rattle.front.proofs.is_far.Goals as goal
 
-pub returns-then-values-ne12 : goal.returns-then-values-ne12
-returns-then-values-ne12 c = other_length _ c.if-values-ne12.true
+pub returns-in_default : goal.returns-in_default
+returns-in_default c = other_length _ c.in_default.ensures.cases
 
 pub returns-then-share_point : goal.returns-then-share_point
-returns-then-share_point c = sharing c.args.values.now c.box_of-u.ensures c.box_of-v.ensures c.share_point.ensures c.if-values-ne12.false c.if-share_point.true
+returns-then-share_point c = sharing _ c.in-Some.ensures.cases c.pair_of.ensures c.box_of.ensures c.box_of-2.ensures c.share_point.ensures c.if-share_point.true
 
 pub returns : goal.returns
-returns c = sharing_none c.args.values.now c.box_of-u.ensures c.box_of-v.ensures c.share_point.ensures c.if-values-ne12.false c.if-share_point.false c.all_finite.ensures
+returns c = sharing_none _ c.in-Some.ensures.cases c.pair_of.ensures c.box_of.ensures c.box_of-2.ensures c.share_point.ensures c.if-share_point.false c.all_finite.ensures

@@ -1,13 +1,8 @@
--- What is said of the file that arrived is what is to be said of the whole input.
+-- The buffer has the length that it must have, and what the command says is what is to be said.
 use native.Mathlib.Omega.{arith}
-use Rattle.listing.specs.Words.{refused_line}
 use Rattle.listing.specs.Listing.{output_of}
-use Rattle.input.proofs.Fronts.{replied}
-use Rattle.leaks.proofs.Fronts.{line_of_refused}
 use Rattle.leaks.proofs.reply_to.Goals as goal
 
 pub returns : goal.returns
-returns g c =
-    let g = c.args in
-    let read = c.read_all-got in
-    replied refused_line output_of line_of_refused g.buffer.now read.new.buffer read.result read.ensures (omega (arith, read.auto.buffer)) c.answer-n.ensures
+unfolding output_of
+returns g c = c.reply_to.ensures.replied (omega arith)

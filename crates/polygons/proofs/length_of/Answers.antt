@@ -8,4 +8,4 @@ returns c = let g = c.args in
     let l = c.point_length.ensures in
     let m = c.point_length-2.ensures in
     let n = c.point_length-3.ensures in
-    (polygon_length g.x0 g.y0 g.x1 g.y1 g.x2 g.y2 l.0 m.0 n.0, omega (arith, l.1, m.1, n.1))
+    (polygon_length g.six l.0 m.0 n.0, omega (arith, l.1, m.1, n.1))

@@ -1,8 +1,16 @@
--- Put where there is room, else not.
-use Rattle.text.proofs.Room.{Put-nothing}
-use borrow.Author.Tests.{leb-false}
-use mathlib.Core.Path.{sym, refl, ◌∙◌}
+-- Where there is no room nothing is put.
+use Rattle.chart.specs.Words.{triangle_text}
+use Rattle.layout.specs.Parts.{triangle_by}
+use Rattle.std.proofs.lemmas.Bool.{false≢true}
+use Rattle.text.proofs.Room.{put_not}
+use mathlib.Core.Path.{refl}
+use native.Mathlib.Omega.{arith}
 use Rattle.polygons.proofs.put.Goals as goal
 
-pub returns : goal.returns
-returns c = let g = c.args in Put-nothing g.room.now _ g.at _ refl (leb-false _ _ (sym c.has_room.ensures ∙ c.if-has_room.false))
+pub returns-in_err-left-clause-placed : goal.returns-in_err-left-clause-placed
+returns-in_err-left-clause-placed c = let n = c.in_err-left.ensures in
+    rw c.from_residual.ensures (put_not c.args.room.now (triangle_text (triangle_by c.args.six)) c.args.at (λ h. n (omega (arith, h))) refl)
+
+pub returns-then-not-is_enough-clause-placed : goal.returns-then-not-is_enough-clause-placed
+returns-then-not-is_enough-clause-placed c = let s = c.in_ok-left.ensures in
+    put_not c.args.room.now (triangle_text (triangle_by c.args.six)) c.args.at (λ h. false≢true (c.if-not-is_enough.ensures.1 (omega (arith, s.1, h)))) refl

@@ -1,31 +1,31 @@
 -- Digits of a number below ten thousand, or four behind such a number.
-use Prim.Native.Nat.{◌/◌}
-use Rattle.polygons.proofs.Numbers.{long_is}
-use Rattle.polygons.proofs.Stores.{still}
-use Rattle.text.proofs.Laws.{width_is, digits-length}
-use Rattle.text.proofs.Room.{put_two, put_as}
+use Prim.Native.Nat.{◌/◌, ◌+◌, ◌≤◌}
+use Rattle.polygons.proofs.Numbers.{long_is, ten_thousand_is}
+use Rattle.polygons.proofs.Stores.{first_fits, next_fits, put_then}
+use Rattle.text.proofs.Laws.{width_is}
+use Rattle.text.proofs.Room.{put_as}
 use Rattle.text.specs.Code.{digits}
 use Rattle.text.specs.Decimal.{decimal}
-use lib.ListN.{length, length-append}
-use mathlib.Core.Path.{ap}
+use lib.ListN.{length}
+use mathlib.Core.Path.{sym, ap, subst, ◌∙◌}
 use native.Mathlib.Omega.{arith}
 use Rattle.polygons.proofs.put_whole.Goals as goal
 
-pub put_ten_thousand-requires : goal.put_ten_thousand-requires
-put_ten_thousand-requires c = let w = width_is 4 c.args.w (omega (arith, c.if-w-eq10000.true)) (omega (arith, c.if-w-eq10000.true)) in omega (arith, w, c.requires.1)
+pub put_bytes-requires : goal.put_bytes-requires
+put_bytes-requires c = let w = width_is 4 c.args.w (omega (arith, c.if-w-eq10000.true)) (omega (arith, c.if-w-eq10000.true)) in (omega arith, omega (arith, w, c.requires.1))
+
+pub returns-then-w-eq10000 : goal.returns-then-w-eq10000
+returns-then-w-eq10000 c = put_as (ten_thousand_is ∙ ap decimal (sym c.if-w-eq10000.true)) c.put_bytes.ensures
 
 pub put_short-p-requires : goal.put_short-p-requires
-put_short-p-requires c = let e = ap length (long_is c.args.w c.if-w-lt10000.false) in
-    let n = length-append (decimal (c.args.w / 10000)) (digits 4 c.args.w) in
-    (omega (arith, c.requires.0), omega (arith, c.requires.1, e, n))
+put_short-p-requires c = let f = subst (λ t. c.args.at + length t ≤ length c.args.room.now) (sym (long_is c.args.w c.if-w-lt10000.false)) c.requires.1 in
+    (omega (arith, c.requires.0), first_fits (decimal (c.args.w / 10000)) (digits 4 c.args.w) _ f)
 
 pub put_four-requires : goal.put_four-requires
-put_four-requires c = let e = ap length (long_is c.args.w c.if-w-lt10000.false) in
-    let n = length-append (decimal (c.args.w / 10000)) (digits 4 c.args.w) in
-    let l = digits-length 4 c.args.w in
-    still 4 c.put_short-p.ensures (omega (arith, c.requires.1, e, n, l))
+unfolding digits
+put_four-requires c = let f = subst (λ t. c.args.at + length t ≤ length c.args.room.now) (sym (long_is c.args.w c.if-w-lt10000.false)) c.requires.1 in
+    next_fits (decimal (c.args.w / 10000)) (digits 4 c.args.w) c.put_short-p.ensures f
 
 pub returns : goal.returns
-returns c = let e = ap length (long_is c.args.w c.if-w-lt10000.false) in
-    let n = length-append (decimal (c.args.w / 10000)) (digits 4 c.args.w) in
-    put_as (long_is c.args.w c.if-w-lt10000.false) (put_two c.put_short-p.ensures c.put_four.ensures (omega (arith, c.requires.1, e, n)))
+returns c = let f = subst (λ t. c.args.at + length t ≤ length c.args.room.now) (sym (long_is c.args.w c.if-w-lt10000.false)) c.requires.1 in
+    put_as (long_is c.args.w c.if-w-lt10000.false) (put_then (decimal (c.args.w / 10000)) (digits 4 c.args.w) c.put_short-p.ensures f c.put_four.ensures)

@@ -1,26 +1,29 @@
 -- 01's refusals first, then the place, then the corner.
-use Rattle.routine.proofs.Asked.{corner_short, corner_far, found_refused, found_told, found_beyond}
+use native.Mathlib.Omega.{arith}
+use Rattle.triangles.specs.Decision.{enough}
+use Rattle.routine.proofs.Kept.{told_Keeps}
+use Rattle.routine.proofs.Asked.{corner_short, found_refused, found_none, found_beyond, found_told}
 use Rattle.routine.proofs.corner_at.Goals as goal
 
-pub returns-then-values-ne12 : goal.returns-then-values-ne12
-returns-then-values-ne12 c = corner_short c.args.values.now c.args.place c.if-values-ne12.true c.no_corner.ensures
+pub returns-in_default : goal.returns-in_default
+returns-in_default c = corner_short c.args.values.now c.args.place c.in_default.ensures.cases c.number.ensures c.no_corner.ensures
 
-pub returns-then-beyond : goal.returns-then-beyond
-returns-then-beyond c =
-    let g = c.args in
-    corner_far g.values.now g.place _ c.if-values-ne12.false c.start_of-s.ensures c.beyond.ensures c.if-beyond.true c.no_corner-then-beyond.ensures
+pub returns-in_default-found : goal.returns-in_default-found
+returns-in_default-found c =
+    let l = c.args.values.now in
+    found_none l c.args.place (told_Keeps l enough c.in-Some.ensures.cases (omega arith) c.start_of-s.ensures (rw c.in_default-found.is at c.in-Ok.ensures)) c.no_corner-in_default-found.ensures
 
-pub returns-then-answer-ne0 : goal.returns-then-answer-ne0
-returns-then-answer-ne0 c =
-    let g = c.args in
-    found_refused g.values.now g.place _ c.if-values-ne12.false c.start_of-s.ensures _ c.settled-f.ensures c.if-answer-ne0.true c.no_corner-then-answer-ne0.ensures
+pub returns-then-place-f : goal.returns-then-place-f
+returns-then-place-f c =
+    let l = c.args.values.now in
+    found_told l c.args.place c.in-Some-found.f (told_Keeps l enough c.in-Some.ensures.cases (omega arith) c.start_of-s.ensures (rw c.in-Some-found.is at c.in-Ok.ensures)) c.in-Some.ensures.cases c.start_of-s.ensures c.if-place-f.true c.corner_in.ensures c.told_of.ensures
 
-pub returns-then-place-answer : goal.returns-then-place-answer
-returns-then-place-answer c =
-    let g = c.args in
-    found_told g.values.now g.place _ c.if-values-ne12.false c.start_of-s.ensures _ c.settled-f.ensures c.if-answer-ne0.false c.if-place-answer.true c.corner_in.ensures c.told_of.ensures
+pub returns-else-place-f : goal.returns-else-place-f
+returns-else-place-f c =
+    let l = c.args.values.now in
+    found_beyond l c.args.place c.in-Some-found.f (told_Keeps l enough c.in-Some.ensures.cases (omega arith) c.start_of-s.ensures (rw c.in-Some-found.is at c.in-Ok.ensures)) c.if-place-f.false c.no_corner-in-Ok.ensures
 
-pub returns : goal.returns
-returns c =
-    let g = c.args in
-    found_beyond g.values.now g.place _ c.if-values-ne12.false c.start_of-s.ensures _ c.settled-f.ensures c.if-answer-ne0.false c.if-place-answer.false c.no_corner-2.ensures
+pub returns-in-Err : goal.returns-in-Err
+returns-in-Err c =
+    let l = c.args.values.now in
+    found_refused l c.args.place c.in-Err.k (told_Keeps l enough c.in-Some.ensures.cases (omega arith) c.start_of-s.ensures c.in-Err.ensures) c.number-in-Err.ensures c.no_corner-in-Err.ensures

@@ -1,15 +1,17 @@
--- Each turn adds one more.
-use Rattle.showing.proofs.Polygons.{others_none, others_length}
+-- Each turn takes one from those that are left.
+use Rattle.showing.proofs.Polygons.{others_length, others_done}
 use lib.ListN.{length}
-use mathlib.Core.Path.{sym, ap}
+use mathlib.Core.Path.{ap}
 use native.Mathlib.Omega.{arith}
 use Rattle.showing.proofs.others_length.Goals as goal
 
-pub loop-done-init : goal.loop-done-init
-loop-done-init c = let g = c.args in (omega arith, sym (ap length (others_none g.file.now g.at)), omega arith)
+pub loop-bytes-preserved : goal.loop-bytes-preserved
+loop-bytes-preserved c = let l = c.loop-bytes in
+    let m = c.polygon_length.ensures in
+    let e = others_length c.args.triangles.now l.bytes-index c.loop-bytes-test.true m.0 in
+    (omega (arith, e, l.invariant.0), omega (arith, m.1, l.invariant.1))
 
-pub loop-done-preserved : goal.loop-done-preserved
-loop-done-preserved c = let l = c.loop-done in
-    let g = c.args in
-    let t = c.length_at.ensures in
-    (omega (arith, c.loop-done-test.true), others_length g.file.now g.at l.done l.invariant.1 t.0, omega (arith, t.1, l.invariant.2))
+pub returns : goal.returns
+returns c = let l = c.loop-bytes in
+    let e = ap length (others_done c.args.triangles.now l.bytes-index c.loop-bytes-test.false) in
+    (omega (arith, e, l.invariant.0), omega (arith, l.invariant.1, l.auto.bytes-index-end))

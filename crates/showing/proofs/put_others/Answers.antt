@@ -1,21 +1,27 @@
--- Each turn puts one more behind those before.
-use Rattle.polygons.proofs.Stores.{still}
-use Rattle.showing.proofs.Polygons.{others_none, others_more, for_other}
-use Rattle.text.proofs.Room.{Put-none, put_two, put_as}
-use mathlib.Core.Path.{sym}
-use native.Mathlib.Omega.{arith}
+-- Each turn puts one of those that are left.
+use Prim.Native.Nat.{◌+◌, ◌≤◌}
+use Rattle.chart.specs.Words.{comma}
+use Rattle.polygons.proofs.Stores.{first_fits, next_fits, put_then}
+use Rattle.showing.proofs.Polygons.{others_next, others_done}
+use Rattle.showing.specs.Code.{text_at}
+use Rattle.text.proofs.Room.{Put-none, put_as}
+use lib.ListN.{length, get_or}
+use mathlib.Core.List.{[], ◌++◌}
+use mathlib.Core.Path.{sym, subst}
 use Rattle.showing.proofs.put_others.Goals as goal
 
-pub loop-done-init : goal.loop-done-init
-loop-done-init c = let g = c.args in (put_as (sym (others_none g.file.now g.at)) (Put-none g.room.now g.to), omega arith)
-
 pub put_other-next-requires : goal.put_other-next-requires
-put_other-next-requires c = let l = c.loop-done in
-    let t = c.loop-done-test.true in
-    (omega (arith, t, c.requires.0), still _ l.invariant.0 (for_other c.args.file.now c.args.at l.done c.args.n c.args.to t c.requires.2))
+put_other-next-requires c = let l = c.loop-bytes in
+    let f = subst (λ t. l.next + length t ≤ length l.room) (others_next c.args.triangles.now l.bytes-index c.loop-bytes-test.true) l.invariant.0 in
+    first_fits (comma ++ text_at (get_or c.args.triangles.now l.bytes-index [])) _ _ f
 
-pub loop-done-preserved : goal.loop-done-preserved
-loop-done-preserved c = let l = c.loop-done in
-    let t = c.loop-done-test.true in
-    let h = for_other c.args.file.now c.args.at l.done c.args.n c.args.to t c.requires.2 in
-    (put_as (sym (others_more c.args.file.now c.args.at l.done)) (put_two l.invariant.0 c.put_other-next.ensures (omega (arith, h))), omega (arith, t))
+pub loop-bytes-preserved : goal.loop-bytes-preserved
+loop-bytes-preserved c = let l = c.loop-bytes in
+    let one = comma ++ text_at (get_or c.args.triangles.now l.bytes-index []) in
+    let e = others_next c.args.triangles.now l.bytes-index c.loop-bytes-test.true in
+    let f = subst (λ t. l.next + length t ≤ length l.room) e l.invariant.0 in
+    (next_fits one _ c.put_other-next.ensures f, λ after q p. l.invariant.1 after q (put_as (sym e) (put_then one _ c.put_other-next.ensures f p)))
+
+pub returns : goal.returns
+returns c = let l = c.loop-bytes in
+    l.invariant.1 l.room l.next (put_as (sym (others_done c.args.triangles.now l.bytes-index c.loop-bytes-test.false)) (Put-none l.room l.next))

@@ -1,44 +1,46 @@
--- The recording that has the id is there or not, and its text fits or not.
-use Prim.Native.Nat.{◌<◌}
-use Rattle.footprint.proofs.Table.{entry_is}
-use Rattle.footprint.proofs.Verdicts.{table_read, count_read}
-use Rattle.layout.specs.Parts.{count_of}
-use Rattle.showing.proofs.Searched.{no_id, too_short_lem, put_whole, some_triangles, within, text_is}
-use Rattle.text.proofs.Room.{put_as}
-use native.Mathlib.Omega.{arith}
+-- The file is refused or good, the recording that has the id is there or not, and its text fits or not.
+use Prim.Native.Nat.{◌/◌}
+use Rattle.footprint.specs.Contents.{contents}
+use Rattle.chart.specs.Promise.{ShowPromise}
+use Rattle.chart.specs.Words.{collection_text}
+use Rattle.chart.specs.Recorded.{number_with}
+use Rattle.layout.proofs.Returned.{has_Layout}
+use Rattle.layout.specs.Recordings.{bytes_of}
+use Rattle.showing.proofs.Answered.{one_refusal, file_refused, no_recording, is_there, answered}
+use Rattle.showing.proofs.Searched.{entry_found, some_triangles, recording_is}
+use Rattle.showing.specs.Code.{texts_of}
+use Rattle.showing.specs.Told.{said, told}
+use Rattle.showing.specs.declared.Refusal.TheVariants.{NoRecording, NoRoom}
+use Rattle.std.proofs.lemmas.Result.{err_from_is_err_and}
+use Rattle.std.specs.Option.{ok_or}
+use Rattle.std.specs.Simd.{first_chunks}
+use lib.ListN.{length}
+use mathlib.Core.Path.{sym, ap, subst, ◌∙◌}
 use Rattle.showing.proofs.shown.Goals as goal
 
-pub number_with-k-requires : goal.number_with-k-requires
-number_with-k-requires c = let file = c.args.file.now in
-    let table = table_read file c.u32_at-table.ensures in
-    let count = count_read file c.u32_at-count.ensures in
-    (table, count, omega (arith, table, count, c.requires.filled, c.requires.at_most65536))
+pub returns-in_err-file : goal.returns-in_err-file
+returns-in_err-file c = let p = err_from_is_err_and c.from_residual.result c.from_residual.ensures.1 in
+    rw (p.1, p.2) (file_refused c.args.file.now c.args.id c.args.room.now _ c.in_err-file.ensures.verdict)
 
-pub returns-then-count-k : goal.returns-then-count-k
-returns-then-count-k c = let file = c.args.file.now in
-    let count = count_read file c.u32_at-count.ensures in
-    no_id file c.args.id c.args.room.now c.requires c.number_with-k.ensures (omega (arith, count, c.if-count-k.true)) c.no_text.ensures
+pub returns-in_err-entry : goal.returns-in_err-entry
+returns-in_err-entry c = let p = err_from_is_err_and c.from_residual-in_err-entry.result c.from_residual-in_err-entry.ensures.1 in
+    let f = c.in_ok-file.file in
+    let none = c.in_err-entry.ensures.ok_part in
+    rw (p.1, p.2)
+    (subst (λ r. ShowPromise c.args.file.now c.args.id c.args.room.now (said r) c.args.room.now) (sym (one_refusal _ _ (c.in_err-entry.ensures.value ∙ ap (λ o. ok_or o NoRecording) none)))
+    (subst (λ b. ShowPromise b c.args.id c.args.room.now (said NoRecording) c.args.room.now) c.in_ok-file.ensures.kept
+    (no_recording (contents f) c.args.id c.args.room.now f.good (sym (sym none ∙ (c.entry_with.ensures ∙ entry_found (contents f) c.args.id))))))
 
-pub overflow_sub-e : goal.overflow_sub-e
-overflow_sub-e c = let file = c.args.file.now in
-    let count = count_read file c.u32_at-count.ensures in
-    some_triangles file c.requires (omega (arith, count, c.if-count-k.false)) (entry_is file (table_read file c.u32_at-table.ensures) c.number_with-k.result c.entry_at-e.ensures.0)
-
-pub put_text-size-requires : goal.put_text-size-requires
-put_text-size-requires c = let file = c.args.file.now in
-    let count = count_read file c.u32_at-count.ensures in
-    (within file c.requires (omega (arith, count, c.if-count-k.false)) (entry_is file (table_read file c.u32_at-table.ensures) c.number_with-k.result c.entry_at-e.ensures.0), c.requires.at_most65536)
-
-pub returns-then-size-eq0 : goal.returns-then-size-eq0
-returns-then-size-eq0 c = let file = c.args.file.now in
-    let count = count_read file c.u32_at-count.ensures in
-    let below : c.number_with-k.result < count_of file = omega (arith, count, c.if-count-k.false) in
-    let entry = entry_is file (table_read file c.u32_at-table.ensures) c.number_with-k.result c.entry_at-e.ensures.0 in
-    too_short_lem file c.args.id c.args.room.now c.requires c.number_with-k.ensures below (put_as (text_is file c.requires below entry) c.put_text-size.ensures) c.if-size-eq0.true c.no_text-then-size-eq0.ensures
+pub put_text-requires : goal.put_text-requires
+put_text-requires c = let f = c.in_ok-file.file in
+    let i = is_there (contents f) (number_with (contents f) c.args.id) (sym (c.entry_with.ensures ∙ entry_found (contents f) c.args.id) ∙ c.in_ok-entry.ensures.ok_part) in
+    rw (c.as_chunks.ensures.front_len, c.part.ensures ∙ ap (bytes_of (contents f)) i.1) (some_triangles (contents f) (has_Layout (contents f) f.good) i.0)
 
 pub returns : goal.returns
-returns c = let file = c.args.file.now in
-    let count = count_read file c.u32_at-count.ensures in
-    let below : c.number_with-k.result < count_of file = omega (arith, count, c.if-count-k.false) in
-    let entry = entry_is file (table_read file c.u32_at-table.ensures) c.number_with-k.result c.entry_at-e.ensures.0 in
-    put_whole file c.args.id c.args.room.now c.requires c.number_with-k.ensures below (put_as (text_is file c.requires below entry) c.put_text-size.ensures) c.if-size-eq0.false
+returns c = let f = c.in_ok-file.file in
+    let i = is_there (contents f) (number_with (contents f) c.args.id) (sym (c.entry_with.ensures ∙ entry_found (contents f) c.args.id) ∙ c.in_ok-entry.ensures.ok_part) in
+    let part = c.part.ensures ∙ ap (bytes_of (contents f)) i.1 in
+    let e = ap (λ ts. collection_text (texts_of ts)) (c.as_chunks.ensures.front ∙ ap (λ p. first_chunks 24 (length p / 24) p) part) ∙ recording_is (contents f) (has_Layout (contents f) f.good) i.0 in
+    subst (λ r. ShowPromise c.args.file.now c.args.id c.args.room.now (told r) c.put_text.new.room) (sym c.ok_or-2.ensures.value)
+    (subst (λ b. ShowPromise b c.args.id c.args.room.now (told (ok_or c.put_text.result NoRoom)) c.put_text.new.room) c.in_ok-file.ensures.kept
+    (answered (contents f) c.args.id c.args.room.now f.good i.0 e c.put_text.result c.put_text.ensures.placed c.put_text.ensures.fits))

@@ -1,23 +1,21 @@
--- A number of the list is loaded as it is; beyond the end the list has 0.
+-- std's bits of a number are those of the rules, and beyond the end the list has 0.
 use lib.IntN.{pos}
-use lib.ListN.{get_or, get_or-eq_default}
-use mathlib.Core.Path.{sym, ap, ◌∙◌}
+use mathlib.Core.Path.{ap, ◌∙◌}
+use native.Mathlib.Omega.{arith}
+use mir.Val.{SFits, of_z}
+use mir.ValLaws.{to_z-of_z}
+use mir.Syntax.{w32}
+use Rattle.std.specs.Int.{cast_unsigned}
+use Rattle.std.specs.Option.{unwrap_or}
 use Rattle.layout.specs.Bytes.{signed}
 use Rattle.filing.specs.File.{bits_of}
 use Rattle.filing.proofs.Bytes.{signed_bits}
-use Rattle.storing.proofs.Stores.{plain}
+use Rattle.storing.proofs.Stores.{bits_are}
 use Rattle.storing.proofs.bits_at.Goals as goal
 
-pub returns-then-j-numbers : goal.returns-then-j-numbers
-returns-then-j-numbers c =
-    let g = c.args in
-    let f = c.bits-arg-1.given in
-    let e = c.bits.ensures ∙ ap bits_of (plain g.numbers.now g.j f) in
-    (e, ap signed e ∙ signed_bits (get_or g.numbers.now g.j (pos 0)) (record { sfits = f }))
-
 pub returns : goal.returns
-unfolding signed
 returns c =
-    let g = c.args in
-    let e = get_or-eq_default g.numbers.now (pos 0) c.if-j-numbers.false in
-    (sym (ap bits_of e), sym e)
+    let f : SFits w32 c.unwrap_or.result = record { sfits = c.unwrap_or.type_inv } in
+    let z = c.unwrap_or.ensures ∙ (ap (λ o. unwrap_or o (pos 0)) c.copied.ensures ∙ c.get.ensures.lookup.4 (omega arith) (pos 0)) in
+    let e = c.cast_unsigned.ensures ∙ (ap (cast_unsigned w32) (to_z-of_z w32 c.unwrap_or.result f) ∙ bits_are c.unwrap_or.result) in
+    (e ∙ ap bits_of z, ap signed e ∙ (signed_bits c.unwrap_or.result f ∙ z))

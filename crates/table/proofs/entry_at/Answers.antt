@@ -1,8 +1,9 @@
 -- The table passes the test.
-use mathlib.Core.Path.{◌∙◌}
+use Rattle.table.specs.declared.TheConstants.{TABLE}
+use Rattle.table.specs.Table.{number_in}
 use Rattle.table.proofs.Entries.{right, in_right}
 use Rattle.table.proofs.entry_at.Goals as goal
 
 pub returns : goal.returns
-unfolding right
-returns c = c.number_in.ensures ∙ in_right _ tt _ c.requires
+unfolding right number_in
+returns c = in_right TABLE tt c.args.i c.requires

@@ -1,11 +1,10 @@
--- What does not fit is not put; what fits is laid byte by byte.
+-- What does not fit is not put; what fits is copied.
 use mathlib.Core.Path.{refl}
-use native.Mathlib.Omega.{arith}
-use Rattle.text.proofs.Room.{Put-nothing}
+use Rattle.text.proofs.Room.{put_not, put_part}
 use Rattle.text.proofs.put_bytes.Goals as goal
 
-pub returns-then-most-k : goal.returns-then-most-k
-returns-then-most-k c = let g = c.args in Put-nothing g.room.now g.bytes.now g.at _ refl (omega (arith, c.if-most-k.true))
+pub returns-in_err-behind-clause-placed : goal.returns-in_err-behind-clause-placed
+returns-in_err-behind-clause-placed c = let g = c.args in rw c.from_residual.ensures (put_not g.room.now g.bytes.now g.at c.in_err-behind.ensures refl)
 
-pub returns-then-most-k-2 : goal.returns-then-most-k-2
-returns-then-most-k-2 c = let g = c.args in Put-nothing g.room.now g.bytes.now g.at _ refl (omega (arith, c.if-most-k.false, c.if-most-k-2.true))
+pub returns-clause-placed : goal.returns-clause-placed
+returns-clause-placed c = let g = c.args in put_part g.room.now g.bytes.now g.at c.in_ok-behind.ensures c.copy_from_slice.ensures.after

@@ -1,11 +1,10 @@
--- Measured first, then put whole.
-use native.Mathlib.Omega.{arith}
-use Rattle.text.proofs.Room.{Put-nothing}
-use Rattle.wording.specs.Lines.{leak_line_of}
+-- The words, each with its number, and the line feed are the line.
+use Rattle.text.proofs.Room.{put_as, fits_as}
+use Rattle.wording.proofs.Lines.{line_is}
 use Rattle.wording.proofs.put_line.Goals as goal
 
-pub returns-then-most-size : goal.returns-then-most-size
-returns-then-most-size c = let g = c.args in Put-nothing g.room.now (leak_line_of g.test g.train g.n) g.at _ c.line_length-size.ensures.0 (omega (arith, c.if-most-size.true))
+pub returns-clause-placed : goal.returns-clause-placed
+returns-clause-placed c = let g = c.args in put_as (line_is g.test g.train g.n) (rw (c.then-3.ensures, c.then-line-3.ensures, c.then-2.ensures, c.then-line-2.ensures, c.then.ensures, c.then-line.ensures) at c.put.ensures.placed)
 
-pub returns-then-most-size-2 : goal.returns-then-most-size-2
-returns-then-most-size-2 c = let g = c.args in Put-nothing g.room.now (leak_line_of g.test g.train g.n) g.at _ c.line_length-size.ensures.0 (omega (arith, c.if-most-size.false, c.if-most-size-2.true))
+pub returns-clause-fits : goal.returns-clause-fits
+returns-clause-fits c = let g = c.args in fits_as g.room.now g.at c.put.result (line_is g.test g.train g.n) (rw (c.then-3.ensures, c.then-line-3.ensures, c.then-2.ensures, c.then-line-2.ensures, c.then.ensures, c.then-line.ensures) at c.put.ensures.fits)

@@ -1,24 +1,16 @@
--- What is left to read gives the number of all.
-use Prim.Native.Nat.{◌+◌, ◌*◌}
-use Rattle.text.specs.Decimal.{read_on}
-use Rattle.words.proofs.Ids.{read_turn, read_all, too_large, in_range_lem}
-use lib.ListN.{length, drop}
-use mathlib.Core.Path.{◌≡◌, sym, ap, ◌∙◌}
-use native.Mathlib.Omega.{arith}
+-- What is left to read gives the number of all; a digit that takes it beyond 2^32 takes all beyond it.
+use Rattle.std.proofs.Common.{rules, ◌≡◌, sym, refl, ◌∙◌, None, length}
+use Rattle.words.proofs.Ids.{digit_read, beyond, all_read}
 use Rattle.words.proofs.value_of.Goals as goal
 
-pub returns-then-n-gt4294967295 : goal.returns-then-n-gt4294967295
-returns-then-n-gt4294967295 c = let word = c.args.word.now in
-    let l = c.loop-i in
-    (too_large word _ (l.i + 1) (ap (λ d. read_on (10 * l.n + d) (drop (l.i + 1) word)) c.digit.ensures.0 ∙ (sym (read_turn l.n l.i word c.loop-i-test.true) ∙ l.invariant.2)) c.if-n-gt4294967295.true, omega arith)
+pub loop-b-preserved : goal.loop-b-preserved
+loop-b-preserved c = let l = c.loop-b in digit_read c.args.word.now l.n l.b-index _ _ c.loop-b-test.true refl l.invariant.0 (sym c.one_more.ensures ∙ c.in_ok-n.was)
 
-pub loop-i-preserved : goal.loop-i-preserved
-loop-i-preserved c = let word = c.args.word.now in
-    let l = c.loop-i in
-    (omega (arith, c.loop-i-test.true), omega (arith, c.if-n-gt4294967295.false), ap (λ d. read_on (10 * l.n + d) (drop (l.i + 1) word)) c.digit.ensures.0 ∙ (sym (read_turn l.n l.i word c.loop-i-test.true) ∙ l.invariant.2))
+pub returns-in_err-n : goal.returns-in_err-n
+returns-in_err-n c =
+    let l = c.loop-b in
+    let none : c.from_residual.result ≡ None = search rules in
+    none ∙ beyond c.args.word.now l.n l.b-index _ c.loop-b-test.true refl l.invariant.0 (sym c.one_more.ensures ∙ c.in_err-n.was)
 
 pub returns : goal.returns
-returns c = let word = c.args.word.now in
-    let l = c.loop-i in
-    let e : l.i ≡ length word = omega (arith, l.invariant.0, c.loop-i-test.false) in
-    (in_range_lem word l.n (sym (read_all l.n l.i word e) ∙ l.invariant.2) l.invariant.1, omega (arith, l.invariant.1))
+returns c = let l = c.loop-b in let e : l.b-index ≡ length c.args.word.now = search rules in all_read c.args.word.now l.n l.b-index e l.invariant.1 l.invariant.0

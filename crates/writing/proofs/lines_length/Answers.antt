@@ -5,11 +5,10 @@ use native.Mathlib.Omega.{arith}
 use Rattle.writing.proofs.Lines.{lines_none, lines_turn}
 use Rattle.writing.proofs.lines_length.Goals as goal
 
-pub loop-c-init : goal.loop-c-init
-loop-c-init c = let g = c.args in (omega arith, sym (ap length (lines_none g.found.now)), omega arith)
+pub loop-test-init : goal.loop-test-init
+loop-test-init c = (sym (ap length lines_none), omega arith)
 
-pub loop-c-preserved : goal.loop-c-preserved
-loop-c-preserved c = let l = c.loop-c in
-    let g = c.args in
+pub loop-test-preserved : goal.loop-test-preserved
+loop-test-preserved c = let l = c.loop-test in
     let t = c.line_length-sum.ensures in
-    (omega (arith, c.loop-c-test.true), lines_turn g.found.now l.c l.invariant.1 t.0, omega (arith, t.1, l.invariant.2))
+    (lines_turn c.args.triples.now l.test-index (omega arith) l.invariant.0 t.0, omega (arith, t.1, l.invariant.1))

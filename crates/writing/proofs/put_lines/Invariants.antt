@@ -1,11 +1,8 @@
 -- Each turn puts one more line behind those before.
-use Prim.Native.Nat.{◌≤◌, ◌-◌}
+use lib.ListN.{take}
 use Rattle.text.specs.Room.{Put}
-use Rattle.writing.specs.Triples.{lines_in}
+use Rattle.writing.proofs.Lines.{lines}
 use Rattle.writing.proofs.put_lines.Given as goal
 
-abbrev pub invariant-loop-done : goal.invariant-loop-done
-invariant-loop-done l = Put l.initial.room l.at (lines_in l.found l.done) l.room l.to × (l.done ≤ l.k)
-
-abbrev pub decreases-loop-done : goal.decreases-loop-done
-decreases-loop-done l = l.k - l.done
+abbrev pub invariant-loop-test : goal.invariant-loop-test
+invariant-loop-test l = Put l.initial.room l.at (lines (take l.test-index l.triples)) l.room l.next

@@ -9,7 +9,8 @@ use Rattle.layout.specs.Stages.{table_rows}
 use Rattle.footprint.proofs.stages.entries.Given as goal
 
 abbrev pub invariant-loop-i : goal.invariant-loop-i
-invariant-loop-i l = (first_of l.file (table_rows l.file) ≡ first_of l.file (in_turn bad_entry id_again (l.count - l.i) l.i ++ (wrong_end ∷ []))) × (l.end ≡ end_before l.file l.i) × (l.i ≤ l.count) × (l.end ≤ 1572840 * l.i)
-
-abbrev pub decreases-loop-i : goal.decreases-loop-i
-decreases-loop-i l = l.count - l.i
+invariant-loop-i l = record {
+  left : first_of l.file (table_rows l.file) ≡ first_of l.file (in_turn bad_entry id_again (l.table.count - l.i) l.i ++ (wrong_end ∷ []));
+  ends : l.end ≡ end_before l.file l.i;
+  small : l.end ≤ 1572840 * l.i;
+}
