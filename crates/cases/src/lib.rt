@@ -10,8 +10,8 @@ ghost use Rattle.cases.specs.Words.{until as until_of, lines_of, lines_left};
 ghost use Rattle.std.specs.Io.{ReadsAtMost};
 ghost use Rattle.cases.specs.Input.{FilledBy, CameBefore};
 
+use std::io;
 use std::io::Read;
-use std::{fmt, io};
 
 // Reads until the room is full or the input ends; how many bytes came, which stand at the room's front. Where a read fails, its error.
 // Stays a count beside the room: its promise (`ReadsAtMost`, `FilledBy`) has both.
@@ -155,19 +155,6 @@ pub fn digits_of(bytes: &[u8], room: &mut [u8]) -> usize
         room[2 * k + 1] = glyph(b % 16);
     }
     2 * n
-}
-
-// Bytes, which are written as their digits, two each. What is written is not promised.
-#[derive(Clone, Copy, Drop)]
-pub struct Digits<'a>(pub &'a [u8]);
-
-impl fmt::Display for Digits<'_> {
-    fn fmt<W: fmt::Write>(&self, f: &mut fmt::Formatter<W>) -> fmt::Result {
-        for b in self.0 {
-            write!(f, "{b:02x}")?;
-        }
-        Ok(())
-    }
 }
 
 // The double with these bits, NaN for those of any NaN.

@@ -16,14 +16,15 @@ fn write_corner(rt: &impl Print, c: corners::Told) -> io::Result<()> {
 }
 
 // The case of a line: a place, and values.
-fn run(rt: &(impl Print + AllocGlobal), line: &[u8]) -> io::Result<()> {
+fn run(rt: &impl Print, line: &[u8]) -> io::Result<()> {
+    let n = line.iter().filter(|b| **b == b' ').count().min(MOST);
     let mut words = line.split(|b| *b == b' ');
     let place = cases::number_of(words.next().unwrap_or(&[])) as usize;
-    let values: Vec<f64> = words
-        .map(|word| cases::value_of(cases::number_of(word)))
-        .take(MOST)
-        .collect(rt.alloc())?;
-    write_corner(rt, routine::corner_at(values.as_slice(), place))
+    let mut values = [0.0; MOST];
+    for (value, word) in values.iter_mut().zip(words) {
+        *value = cases::value_of(cases::number_of(word));
+    }
+    write_corner(rt, routine::corner_at(&values[..n], place))
 }
 
 fn main(rt: HostRuntime) -> io::Result<()> {

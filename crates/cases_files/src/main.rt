@@ -3,8 +3,15 @@
 // bytes, and each of its coordinates by the sixteen digits of its double.
 #![tactic(auto)]
 
-use cases::Digits;
 use std::io;
+
+// Writes bytes by their digits, two each.
+// Stays a buffer that is written at once: shown by std's formats, or as a text in parts, the bytes of a page took five times and more (docs/DECISIONS.md, 224).
+fn write_bytes(rt: &impl Print, bytes: &[u8]) -> io::Result<()> {
+    let mut digits = [0u8; 8192];
+    let n = cases::digits_of(bytes, &mut digits);
+    rt.write_all(&digits[..n])
+}
 
 fn write_coordinates(rt: &impl Print, part: &[u8]) -> io::Result<()> {
     for bytes in part.as_chunks::<4>().0 {
@@ -26,7 +33,7 @@ fn answer(rt: &impl Print, file: &[u8], k: usize) -> io::Result<()> {
         "{:08x} {:08x} {:08x} {:08x} {:08x} ",
         r.id, r.first, r.count, r.set, r.last
     )?;
-    print!(rt; "{}", Digits(part))?;
+    write_bytes(rt, part)?;
     write_coordinates(rt, part)?;
     println!(rt; "")
 }

@@ -2,8 +2,15 @@
 // each. Every byte of the room is a point before the call. A line of the output has number, place, length, leaks, touching, tested and formerly held back, eight digits each, then the room's bytes.
 #![tactic(auto)]
 
-use cases::Digits;
 use std::io;
+
+// Writes bytes by their digits, two each.
+// Stays a buffer that is written at once: shown by std's formats, or as a text in parts, the bytes of a page took five times and more (docs/DECISIONS.md, 224).
+fn write_bytes(rt: &impl Print, bytes: &[u8]) -> io::Result<()> {
+    let mut digits = [0u8; 2048];
+    let n = cases::digits_of(bytes, &mut digits);
+    rt.write_all(&digits[..n])
+}
 
 // One case: a file, and a room.
 fn answer(rt: &impl Print, file: &[u8], room: &mut [u8]) -> io::Result<()> {
@@ -16,7 +23,8 @@ fn answer(rt: &impl Print, file: &[u8], room: &mut [u8]) -> io::Result<()> {
         "{:08x} {:08x} {:08x} ",
         a.touching, a.tested, a.formerly_held_back
     )?;
-    println!(rt; "{}", Digits(room))
+    write_bytes(rt, room)?;
+    println!(rt; "")
 }
 
 // The case of a line, whose file is laid in the room: none where the line has no file, or asks for more than a page of points.

@@ -44,19 +44,17 @@ fn write_room(rt: &impl Print, room: &[f64]) -> io::Result<()> {
 }
 
 // The case of a line: a room's length, and values.
-fn run(rt: &(impl Print + AllocGlobal), line: &[u8]) -> io::Result<()> {
+fn run(rt: &impl Print, line: &[u8]) -> io::Result<()> {
+    let n = line.iter().filter(|b| **b == b' ').count().min(MOST);
     let mut words = line.split(|b| *b == b' ');
     let length = (cases::number_of(words.next().unwrap_or(&[])) % 32) as usize;
-    let values: Vec<f64> = words
-        .map(|word| cases::value_of(cases::number_of(word)))
-        .take(MOST)
-        .collect(rt.alloc())?;
+    let mut values = [0.0; MOST];
+    for (value, word) in values.iter_mut().zip(words) {
+        *value = cases::value_of(cases::number_of(word));
+    }
     let mut room = lent();
-    write_answer(
-        rt,
-        routine::intersect(values.as_slice(), &mut room[..length]),
-    )?;
-    write_decision(rt, routine::decide(values.as_slice()))?;
+    write_answer(rt, routine::intersect(&values[..n], &mut room[..length]))?;
+    write_decision(rt, routine::decide(&values[..n]))?;
     write_room(rt, &room[..length])
 }
 

@@ -2,18 +2,21 @@
 // bytes, two digits each. Every byte of the room is a point before the call. A line of the output has number, place and length, eight digits each, then the room's bytes.
 #![tactic(auto)]
 
-use cases::Digits;
 use std::io;
+
+// Writes bytes by their digits, two each.
+// Stays a buffer that is written at once: shown by std's formats, or as a text in parts, the bytes of a page took five times and more (docs/DECISIONS.md, 224).
+fn write_bytes(rt: &impl Print, bytes: &[u8]) -> io::Result<()> {
+    let mut digits = [0u8; 8192];
+    let n = cases::digits_of(bytes, &mut digits);
+    rt.write_all(&digits[..n])
+}
 
 fn answer(rt: &impl Print, file: &[u8], id: u32, room: &mut [u8]) -> io::Result<()> {
     let a = showing::wkt(file, id, room);
-    println!(rt;
-        "{:08x} {:08x} {:08x} {}",
-        a.number,
-        a.place,
-        a.length,
-        Digits(room)
-    )
+    print!(rt; "{:08x} {:08x} {:08x} ", a.number, a.place, a.length)?;
+    write_bytes(rt, room)?;
+    println!(rt; "")
 }
 
 // The case of a line, with the front of a page of points as the room: none where the line asks for more than a page. A word that is not there is as an empty one.

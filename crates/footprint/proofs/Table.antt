@@ -26,6 +26,13 @@ use Rattle.layout.specs.declared.Entry.{Entry}
 use Rattle.layout.proofs.Slices.{four_part, entry_part}
 use Rattle.footprint.proofs.Chunks.{take_chunks, chunk_is, rest_is, last_chunk}
 
+-- an id and an entry are read where they were cut out, with what stands behind them or without
+pub id_cut : (file : List ℕ) (at n : ℕ) → 4 ≤ n → {v : ℕ} → v ≡ u32_at (take n (drop at file)) 0 → v ≡ u32_at file at
+id_cut file at n whole h = h ∙ (four_part file at n 0 whole ∙ ap (u32_at file) (add-zero at))
+
+pub entry_cut : (file : List ℕ) (at n : ℕ) → 12 ≤ n → {e : Entry} → e ≡ entry_from (take n (drop at file)) 0 → e ≡ entry_from file at
+entry_cut file at n whole h = h ∙ (entry_part file at n 0 whole ∙ ap (entry_from file) (add-zero at))
+
 module _ (file : List ℕ) {table : ℕ} (at_table : table ≡ table_place file) where
   pub place_is : (i : ℕ) → table + 12 * i ≡ entry_place file i
   unfolding entry_place
@@ -41,21 +48,14 @@ module _ (file : List ℕ) {table : ℕ} (at_table : table ≡ table_place file)
   seen_is id (suc i) = ap (list_any (λ bytes. eqb id (u32_at bytes 0))) (last_chunk 12 i (drop table file)) ∙ (list_any-append _ (first_chunks 12 i (drop table file)) (take 12 (drop (12 * i) (drop table file)) ∷ []) ∙ (or_comm (list_any (λ bytes. eqb id (u32_at bytes 0)) (first_chunks 12 i (drop table file))) _ ∙ (ap₂ ◌||◌ (or-false _ ∙ ap (eqb id) (id_there ∙ id_is)) (seen_is id i) ∙ sym (unfold is_seen ids_before any in refl))))
     where
       id_there : u32_at (take 12 (drop (12 * i) (drop table file))) 0 ≡ u32_at file (table + 12 * i)
-      id_there = rw (drop-drop (12 * i) table file) (four_part file (table + 12 * i) 12 0 (omega arith) ∙ ap (u32_at file) (add-zero (table + 12 * i)))
+      id_there = rw (drop-drop (12 * i) table file) (id_cut file (table + 12 * i) 12 (omega arith) refl)
 
       id_is : u32_at file (table + 12 * i) ≡ (entry_at file i).id
       id_is = unfold entry_at entry_from in ap (u32_at file) (place_is i)
 
   -- and an entry is read in its twelve bytes
   pub entry_in_array : (i : ℕ) {bytes : List ℕ} {e : Entry} → bytes ≡ take 12 (drop (12 * i) (drop table file)) → e ≡ entry_from bytes 0 → e ≡ entry_from file (table + 12 * i)
-  entry_in_array i b h = h ∙ (ap (λ xs. entry_from xs 0) b ∙ rw (drop-drop (12 * i) table file) (entry_part file (table + 12 * i) 12 0 (omega arith) ∙ ap (entry_from file) (add-zero (table + 12 * i))))
-
--- an id and an entry are read where they were cut out
-pub id_cut : (file : List ℕ) (at : ℕ) {v : ℕ} → v ≡ u32_at (take (at + 4 - at) (drop at file)) 0 → v ≡ u32_at file at
-id_cut file at h = h ∙ (four_part file at (at + 4 - at) 0 (omega arith) ∙ ap (u32_at file) (add-zero at))
-
-pub entry_cut : (file : List ℕ) (at : ℕ) {e : Entry} → e ≡ entry_from (take (at + 12 - at) (drop at file)) 0 → e ≡ entry_from file at
-entry_cut file at h = h ∙ (entry_part file at (at + 12 - at) 0 (omega arith) ∙ ap (entry_from file) (add-zero at))
+  entry_in_array i b h = h ∙ (ap (λ xs. entry_from xs 0) b ∙ rw (drop-drop (12 * i) table file) (entry_cut file (table + 12 * i) 12 (omega arith) refl))
 
 -- an entry that is not refused begins where those before it end
 starts : (e : Entry) (end : ℕ) (seen : Bool) → entry_rule e end seen ≡ 0 → e.first ≡ end

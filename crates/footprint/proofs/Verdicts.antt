@@ -35,15 +35,17 @@ pub from_start : (file : List ℕ) {table : ℕ} → table ≡ table_place file 
 unfolding triangles_of
 from_start file {table} h = let q : table / 24 - 0 ≡ table_place file / 24 = omega arith in rw (q, append-nil (in_turn out_of_range flat (table_place file / 24) 0)) refl
 
+-- a triangle is read where it was cut out, with what stands behind it or without
+pub triangle_cut : (file : List ℕ) (k m : ℕ) → 24 ≤ m → {n : ℕ} → n ≡ triangle_rule (triangle_from (take m (drop (24 * k) file)) 0) → n ≡ triangle_number file k
+unfolding triangle_at
+triangle_cut file k m whole h = h ∙ ap triangle_rule (triangle_part file (24 * k) m 0 whole ∙ ap (triangle_from file) (add-zero (24 * k)))
+
 -- a triangle's six numbers are read in its 24 bytes
 pub triangle_in_array : (file : List ℕ) (k : ℕ) {bytes six : List ℕ} {n : ℕ} → bytes ≡ take 24 (drop (24 * k) file) → six ≡ six_of bytes → n ≡ triangle_rule (triangle_by six) → n ≡ triangle_number file k
-triangle_in_array file k {bytes} {six} e s h = h ∙ (ap (λ xs. triangle_rule (triangle_by xs)) s ∙ (ap (λ xs. triangle_rule (triangle_by (six_of xs))) e ∙ ap triangle_rule (by_six (take 24 (drop (24 * k) file)) ∙ (triangle_part file (24 * k) 24 0 (omega arith) ∙ (ap (triangle_from file) (add-zero (24 * k)) ∙ at_place)))))
+triangle_in_array file k {bytes} {six} e s h = triangle_cut file k 24 (omega arith) (h ∙ (ap (λ xs. triangle_rule (triangle_by xs)) s ∙ (ap (λ xs. triangle_rule (triangle_by (six_of xs))) e ∙ ap triangle_rule (by_six (take 24 (drop (24 * k) file))))))
   where
     by_six : (xs : List ℕ) → triangle_by (six_of xs) ≡ triangle_from xs 0
     by_six xs = unfold six_of triangle_from i32_at in refl
-
-    at_place : triangle_from file (24 * k) ≡ triangle_at file k
-    at_place = unfold triangle_at in refl
 
 -- the arrays before the table, as the code has them
 count_of_arrays : (file : List ℕ) (table count : ℕ) → table + 12 * count + 12 ≡ length file → length (take table file) / 24 ≡ table / 24
@@ -57,8 +59,3 @@ count_over file table count k h l e = let q = count_of_arrays file table count h
 
 pub array_is : (file : List ℕ) (table count k : ℕ) {arrays : List (List ℕ)} → table + 12 * count + 12 ≡ length file → arrays ≡ first_chunks 24 (length (take table file) / 24) (take table file) → (d : List ℕ) → k < table / 24 → get_or arrays k d ≡ take 24 (drop (24 * k) file)
 array_is file table count k f e d h = let q = count_of_arrays file table count f in ap (λ xs. get_or xs k d) e ∙ (chunk_is 24 (length (take table file) / 24) k (take table file) d (omega (arith, h, q)) ∙ part_of_front 24 (24 * k) table file (omega (arith, h)))
-
--- a triangle is read where it was cut out
-pub triangle_cut : (file : List ℕ) (k : ℕ) {n : ℕ} → n ≡ triangle_rule (triangle_from (take (24 * k + 24 - 24 * k) (drop (24 * k) file)) 0) → n ≡ triangle_number file k
-unfolding triangle_at
-triangle_cut file k h = h ∙ ap triangle_rule (triangle_part file (24 * k) (24 * k + 24 - 24 * k) 0 (omega arith) ∙ ap (triangle_from file) (add-zero (24 * k)))

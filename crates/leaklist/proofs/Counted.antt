@@ -31,7 +31,7 @@ use Rattle.listing.specs.Turns.{up_to, each, folded}
 use Rattle.listing.specs.Pairs.{none_yet, tallied}
 use Rattle.listing.proofs.Turns.{map-append, folded-append, each_append, each_one}
 use Rattle.listing.proofs.Never.{by_boxes}
-use Rattle.leaklist.specs.Code.{shape_in, ReadyAt, AllReady, values_in, row_in, tallied_near, tally_in}
+use Rattle.leaklist.specs.Code.{shape_in, ReadyAt, AllReady, ReadyFrom, values_in, row_in, tallied_near, tally_in}
 
 one_more : (n : ℕ) → up_to (n + 1) ≡ up_to n ++ (n ∷ [])
 one_more n = ap up_to (add-one n) ∙ (unfold up_to in refl)
@@ -47,6 +47,10 @@ tally_same p q r o u = rw (p, q, r, o, u) refl
 -- a near one is what the triangle rules decide; a far one adds nothing
 adds_near : (l : List Float) → TwelveFinite l → is_near l ≡ true → (t : Tally) → tallied t l ≡ tallied_near t (by_rules l)
 adds_near l g h t = rw ((by_boxes l g).ruled h, h) refl
+
+-- ---- some of the table's triangles, where all are ready
+pub ready_from : {table : List Shape} {bounds : List Box} (j n : ℕ) → AllReady table bounds → j + n ≤ length table → ReadyFrom table bounds j n
+ready_from j n all fits b h = all (j + b) (omega (arith, h, fits))
 
 -- ---- two triangles of the table
 module _ (table : List Shape) (bounds : List Box) where
@@ -103,13 +107,7 @@ module _ (table : List Shape) (bounds : List Box) where
   unfolding row_in up_to folded
   row_empty t i j = refl
 
-  module _ (i j n : ℕ) (all : AllReady table bounds) (hi : i < length table) (hj : j + n ≤ length table) where
-    first : ReadyAt table bounds i
-    first = all i hi
-
-    each-ready : (c : ℕ) → c < n → ReadyAt table bounds (j + c)
-    each-ready c h = all (j + c) (omega (arith, h, hj))
-
+  module _ (i j n : ℕ) (first : ReadyAt table bounds i) (each-ready : ReadyFrom table bounds j n) where
     -- from k on to the next that is near
     pub row_on : (t : Tally) (k : ℕ) {s : Tally} {b : Box} {k' : ℕ} → j ≤ k → k ≤ j + n → b ≡ box_among bounds i → s ≡ folded tallied t (row_in table i j (k - j)) → k' ≡ near_from (box_among bounds) b (j + n - k) k →
         (k ≤ k') × (k' ≤ j + n) × (s ≡ folded tallied t (row_in table i j (k' - j))) × (k' < j + n → share_point (box_among bounds i) (box_among bounds k') ≡ true)
@@ -172,10 +170,10 @@ module _ (table : List Shape) (bounds : List Box) where
   unfolding tally_in up_to each folded
   tally_empty i j n = refl
 
-  finite_from : (j n : ℕ) → AllReady table bounds → j + n ≤ length table → FiniteFrom (box_among bounds) j n
-  finite_from j n all hj c h = finite_in (j + c) (all (j + c) (omega (arith, h, hj)))
+  finite_from : (j n : ℕ) → ReadyFrom table bounds j n → FiniteFrom (box_among bounds) j n
+  finite_from j n ready c h = finite_in (j + c) (ready c h)
 
-  module _ (i m j n : ℕ) (all : AllReady table bounds) (hi : i + m ≤ length table) (hj : j + n ≤ length table) where
+  module _ (i m j n : ℕ) (tests-ready : ReadyFrom table bounds i m) (each-ready : ReadyFrom table bounds j n) where
     pub tally_on : (k : ℕ) {s : Tally} {whole : Box} {k' : ℕ} → i ≤ k → k ≤ i + m → whole ≡ around_from (box_among bounds) j n → s ≡ tally_in table i (k - i) j n → k' ≡ near_from (box_among bounds) whole (i + m - k) k → (k ≤ k') × (k' ≤ i + m) × (s ≡ tally_in table i (k' - i) j n)
     tally_on k {s} {whole} {k'} low high hw hs hk =
         let p = passes_over (box_among bounds) (around_from (box_among bounds) j n) (i + m - k) k in
@@ -185,7 +183,7 @@ module _ (table : List Shape) (bounds : List Box) where
         let le : k ≤ k' = omega (arith, e, least) in
         let ge : k' ≤ i + m = omega (arith, e, most, high) in
         let parts : k' - i ≡ k - i + (k' - k) = omega (arith, low, le) in
-        let same = tally_skip i j n (k - i) (k' - k) (λ c l h. let r : i + c < length table = omega (arith, l, h, low, ge, le, hi) in row_far (i + c) j n all r hj (none_of_them (box_among bounds) (box_among bounds (i + c)) j n (finite_in (i + c) (all (i + c) r)) (finite_from j n all hj) (p.none (i + c) (omega (arith, l, low)) (omega (arith, h, low, e, le))))) in
+        let same = tally_skip i j n (k - i) (k' - k) (λ c l h. let r = tests-ready c (omega (arith, l, h, low, ge, le)) in row_far (i + c) j n r each-ready (none_of_them (box_among bounds) (box_among bounds (i + c)) j n (finite_in (i + c) r) (finite_from j n each-ready) (p.none (i + c) (omega (arith, l, low)) (omega (arith, h, low, e, le))))) in
         (le, ge, hs ∙ (sym same ∙ ap (λ a. tally_in table i a j n) (sym parts)))
 
     pub tally_turn : (k : ℕ) {s r : Tally} → i ≤ k → s ≡ tally_in table i (k - i) j n → r ≡ folded tallied s (row_in table k j n) → r ≡ tally_in table i (k + 1 - i) j n
@@ -201,7 +199,7 @@ module _ (table : List Shape) (bounds : List Box) where
     pub tally_far : share_point (around_from (box_among bounds) i m) (around_from (box_among bounds) j n) ≡ false → tally_in table i m j n ≡ none_yet
     tally_far h =
         ap (λ a. tally_in table i a j n) (from_none m)
-        ∙ (tally_skip i j n 0 m (λ a l g. row_far (i + a) j n all (omega (arith, g, hi)) hj (λ c k. none_of_either (box_among bounds) i m j n (finite_from i m all hi) (finite_from j n all hj) h a c (omega (arith, g)) k)) ∙ sym (tally_empty i j n))
+        ∙ (tally_skip i j n 0 m (λ a l g. let r = tests-ready a (omega (arith, g)) in row_far (i + a) j n r each-ready (λ c k. none_of_either (box_among bounds) i m j n (finite_from i m tests-ready) (finite_from j n each-ready) h a c (omega (arith, g)) k)) ∙ sym (tally_empty i j n))
       where
         from_none : (m : ℕ) → m ≡ 0 + m
         from_none m = omega arith

@@ -41,7 +41,7 @@ use Rattle.listing.proofs.Demand.{tested_walked_lem}
 use Rattle.leaklist.specs.Code.{shape_from, Prepared, Framed, Owned, AllReady, values_in, row_in, tally_in, size_in, sum_in, own_in, asked_in, area_for, Gathering, Found, nothing, together, leak_on, found_on, found_for, item_of, row_to, test_of, list_to, formerly_to, found_by_rules}
 use Rattle.footprint.specs.declared.Footprint.{Footprint}
 use Rattle.footprint.specs.Contents.{contents}
-use Rattle.leaklist.proofs.Counted.{tally_far}
+use Rattle.leaklist.proofs.Counted.{ready_from, tally_far}
 
 -- ---- the recording's triangles by number
 module _ (file : List ℕ) (good : Layout file) (i : ℕ) (there-is : i < count_of file) where
@@ -163,7 +163,7 @@ module _ (file : List ℕ) (table : List Shape) (bounds own : List Box) (g : Gat
       let s = g.size in
       let q = in_table file (good-Layout file table bounds own g) j hj in
       sym count_is
-      ∙ tally_far table bounds (test.first / 24) test.count (train.first / 24) train.count (all_ready file table bounds own g) (omega (arith, p, s)) (omega (arith, q, s))
+      ∙ tally_far table bounds (test.first / 24) test.count (train.first / 24) train.count (ready_from (test.first / 24) test.count (all_ready file table bounds own g) (omega (arith, p, s))) (ready_from (train.first / 24) train.count (all_ready file table bounds own g) (omega (arith, q, s)))
       (sym (ap₂ share_point (g.owned i hi) (g.owned j hj)) ∙ h)
 
 -- ---- the own area of a recording, from the table

@@ -19,13 +19,14 @@ use Rattle.listing.specs.Listing.{no_list, list_from, list_of}
 use Rattle.listing.specs.Promise.{ListPromise}
 use Rattle.listing.proofs.Returned.{by_file_lem, past_file, by_list_lem, returned_one}
 use Rattle.writing.specs.Triples.{leak_of, held, beside_in, WrittenAs}
+use Rattle.writing.proofs.Written.{triples_held}
 use Rattle.leaklist.specs.Code.{leaks_of, found_in, found_by_rules, told_of}
 
 -- ---- the list of a good file
 pub keeps : (file room : List ℕ) (found : List (List ℕ)) (c : Counts) (formerly : ℕ) {r : Listed} {after : List ℕ} → Layout file → found_in found c ≡ found_by_rules file → WrittenAs (map leak_of (take (held found c.leaks) found)) (beside_in c formerly) room r after → formerly ≡ formerly_held_back file → c.leaks ≤ 4096 → length found ≡ 4096 → ListPromise file room r after
 keeps file room found c formerly {r} {after} good h w old most size =
     let s = past_file file room (is_good file good) in
-    let all : held found c.leaks ≡ c.leaks = omega (arith, most, size) in
+    let all = triples_held found c.leaks most (omega (arith, most, size)) in
     let ls = ap (leaks_of found) all ∙ ap (λ f. f.leaks) h in
     let t = beside_is (ap (λ f. f.touching) h) (ap (λ f. f.tested) h) in
     record {

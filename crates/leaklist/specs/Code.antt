@@ -71,6 +71,10 @@ pub record ReadyAt (table : List Shape) (bounds : List Box) (k : ℕ) : Type 0 w
 abbrev pub AllReady : List Shape → List Box → Type 0
 AllReady table bounds = (k : ℕ) → k < length table → ReadyAt table bounds k
 
+-- n triangles from j on are
+abbrev pub ReadyFrom : List Shape → List Box → ℕ → ℕ → Type 0
+ReadyFrom table bounds j n = (b : ℕ) → b < n → ReadyAt table bounds (j + b)
+
 -- ---- counts from the table: m test triangles from i on, n training triangles from j on
 abbrev pub values_in : List Shape → ℕ → ℕ → List Float
 values_in table i j = twelve (shape_in table i) (shape_in table j)

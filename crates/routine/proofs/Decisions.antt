@@ -73,9 +73,21 @@ module _ (u v : Shape) where
       go true = refl
       go false = refl
 
+  rules_apart : beyond_by s.d s.e s.p s.q s.r ≡ true → Apart ≡ rules_by u v
+  unfolding rules_by
+  rules_apart h = sym (ap (λ b. cond b Apart (decided settled.answer)) h)
+
+  rules_settled : beyond_by s.d s.e s.p s.q s.r ≡ false → decided settled.answer ≡ rules_by u v
+  unfolding rules_by
+  rules_settled h = sym (ap (λ b. cond b Apart (decided settled.answer)) h)
+
 -- as the code comes to it
-pub decides_by : (u v : Shape) {s : Start} {result : Decision} → s ≡ start_by u v → result ≡ decided (found_by (twelve u v) s.d s.e s.p s.q s.r).answer → result ≡ rules_by u v
-decides_by u v hs h = h ∙ (ap (λ s. decided (found_by (twelve u v) s.d s.e s.p s.q s.r).answer) hs ∙ rules_found u v)
+pub decides_by : (u v : Shape) {s : Start} {result : Decision} → s ≡ start_by u v → beyond_by s.d s.e s.p s.q s.r ≡ false → result ≡ decided (settled_by (twelve u v) s.d s.e s.p s.q s.r).answer → result ≡ rules_by u v
+decides_by u v hs n h = h ∙ (ap (λ s. decided (settled_by (twelve u v) s.d s.e s.p s.q s.r).answer) hs ∙ rules_settled u v (subst (λ s. beyond_by s.d s.e s.p s.q s.r ≡ false) hs n))
+
+-- where all of U lies beyond a line, before anything else
+pub decides_apart : (u v : Shape) {s : Start} → s ≡ start_by u v → beyond_by s.d s.e s.p s.q s.r ≡ true → Apart ≡ rules_by u v
+decides_apart u v hs h = rules_apart u v (subst (λ s. beyond_by s.d s.e s.p s.q s.r ≡ true) hs h)
 
 -- ---- and of two that were made ready
 pub rules_of_made : RulesOfMade

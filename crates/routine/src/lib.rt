@@ -200,18 +200,29 @@ pub fn corner_at(values: &[f64], place: usize) -> corners::Told
     }
 }
 
-// What is decided of a pair, from what every rule starts from.
-fn decided(values: &[f64; 12], start: Start) -> triangles::Decision
-    ensures { result ≡ decided (found_by values.now start.d start.e start.p start.q start.r).answer }
+// What is decided of a pair from d, e and the parameters on.
+fn decided_so(values: &[f64; 12], start: Start) -> triangles::Decision
+    ensures { result ≡ decided (settled_by values.now start.d start.e start.p start.q start.r).answer }
 {
     let mut found = None;
-    match find(values, start, &mut found) {
+    match settled(values, start, &mut found) {
         Ok(()) => match &found {
             Some(f) => decisions::decision_from(f.answer),
             None => triangles::Decision::Apart,
         },
         Err(k) => triangles::Decision::Refused(k.number()),
     }
+}
+
+// What is decided of a pair, from what every rule starts from: apart at once where all of U lies beyond a line.
+#[tactic(auto, unfolding(crate::specs::Code::found_by))]
+fn decided(values: &[f64; 12], start: Start) -> triangles::Decision
+    ensures { result ≡ decided (found_by values.now start.d start.e start.p start.q start.r).answer }
+{
+    if start.beyond() {
+        return triangles::Decision::Apart;
+    }
+    decided_so(values, start)
 }
 
 // Two triangles, U0x, U0y, .. V2y: what is decided of them. Those whose boxes share no point are apart; any others are given to the triangle rules.
@@ -252,10 +263,15 @@ fn start_by(u: shapes::Shape, v: shapes::Shape) -> Start
 pub fn by_rules(u: shapes::Shape, v: shapes::Shape) -> triangles::Decision
     ensures { result ≡ rules_by u v }
 {
+    let start = start_by(u, v);
+    // Before the twelve values are laid down, which most near pairs without a ring then have no need of.
+    if start.beyond() {
+        return triangles::Decision::Apart;
+    }
     let values = [
         u.v0.x, u.v0.y, u.v1.x, u.v1.y, u.v2.x, u.v2.y, v.v0.x, v.v0.y, v.v1.x, v.v1.y, v.v2.x, v
             .v2
             .y,
     ];
-    decided(&values, start_by(u, v))
+    decided_so(&values, start)
 }

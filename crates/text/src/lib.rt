@@ -91,13 +91,24 @@ pub fn put_decimal(room: &mut [u8], at: usize, n: u32) -> Option<usize>
     Some(behind)
 }
 
+// Bytes in the place of as many others.
+// Stays with a number: `copy_from_slice` becomes the C library's memmove where the compiler does not see that the bytes lie apart from the room, and a caller in C has no more to have than memcpy and memset (include/meskelow.h).
+fn copy(room: &mut [u8], bytes: &[u8])
+    requires { length room.old ≡ length bytes.now }
+    ensures { room.new ≡ bytes.now }
+{
+    for (k, b) in bytes.iter().enumerate() {
+        room[k] = *b;
+    }
+}
+
 // The same of bytes.
 pub fn put_bytes(room: &mut [u8], at: usize, bytes: &[u8]) -> Option<usize>
     ensures placed { Put room.old at bytes.now room.new (unwrap_or result at) }
     ensures fits { IsSome result ↔ (at + length bytes.now ≤ length room.old) }
 {
     let behind = behind(room.len(), at, bytes.len())?;
-    room[at..behind].copy_from_slice(bytes);
+    copy(&mut room[at..behind], bytes);
     Some(behind)
 }
 

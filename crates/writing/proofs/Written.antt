@@ -11,12 +11,16 @@ use Rattle.listing.specs.declared.Listed.{Listed}
 use Rattle.listing.specs.Leaks.{Leak, Beside}
 use Rattle.listing.specs.Words.{text_of}
 use Rattle.listing.specs.Listing.{no_list, too_short, list_from}
-use Rattle.writing.specs.Triples.{held_in, WrittenAs, NoSecondWritten}
+use Rattle.writing.specs.Triples.{held, held_in, WrittenAs, NoSecondWritten}
 
 -- ---- all leaks that are found are held, where the numbers are there
 pub held_all : (found : List ℕ) (k : ℕ) → k ≤ 4096 → 3 * k ≤ length found → held_in found k ≡ k
 unfolding held_in
 held_all found k h f = omega (arith, h, f)
+
+-- likewise where the triples are
+pub triples_held : (found : List (List ℕ)) (k : ℕ) → k ≤ 4096 → k ≤ length found → held found k ≡ k
+triples_held found k h f = omega (arith, h, f)
 
 -- ---- the list and the refusal
 module _ (ls : List Leak) (b : Beside) (room : List ℕ) {after : List ℕ} where

@@ -1,15 +1,18 @@
--- A refusal's number, or what was found.
-use mathlib.Core.Path.{ap, ◌∙◌}
+-- Where all of U lies beyond a line nothing is found, and nothing found is apart.
+use mathlib.Core.Path.{sym, ap, ◌∙◌}
+use mathlib.Core.Bool.{cond}
 use Rattle.triangles.specs.Decision.{decided}
-use Rattle.routine.proofs.Decisions.{refused_is}
+use Rattle.routine.specs.Code.{outcome_refused, settled_by, found_by}
 use Rattle.routine.proofs.decided.Goals as goal
 
-pub returns-in-Some : goal.returns-in-Some
-returns-in-Some c = c.decision_from.ensures ∙ ap (λ o. decided o.answer) (rw c.in-Some.is at c.in-Ok.ensures)
+pub returns-then-beyond : goal.returns-then-beyond
+unfolding found_by decided
+returns-then-beyond c =
+    let s = c.args.start in
+    sym (ap (λ b. decided (cond b (outcome_refused 0) (settled_by c.args.values.now s.d s.e s.p s.q s.r)).answer) (sym c.beyond.ensures ∙ c.if-beyond.true))
 
-pub returns-in-None : goal.returns-in-None
-unfolding decided
-returns-in-None c = ap (λ o. decided o.answer) (rw c.in-None.is at c.in-Ok.ensures)
-
-pub returns-in-Err : goal.returns-in-Err
-returns-in-Err c = refused_is c.in-Err.k c.number.ensures ∙ ap (λ o. decided o.answer) c.in-Err.ensures
+pub returns : goal.returns
+unfolding found_by
+returns c =
+    let s = c.args.start in
+    c.decided_so.ensures ∙ sym (ap (λ b. decided (cond b (outcome_refused 0) (settled_by c.args.values.now s.d s.e s.p s.q s.r)).answer) (sym c.beyond.ensures ∙ c.if-beyond.false))

@@ -7,4 +7,4 @@ pub returns-in_err-behind-clause-placed : goal.returns-in_err-behind-clause-plac
 returns-in_err-behind-clause-placed c = let g = c.args in rw c.from_residual.ensures (put_not g.room.now g.bytes.now g.at c.in_err-behind.ensures refl)
 
 pub returns-clause-placed : goal.returns-clause-placed
-returns-clause-placed c = let g = c.args in put_part g.room.now g.bytes.now g.at c.in_ok-behind.ensures c.copy_from_slice.ensures.after
+returns-clause-placed c = let g = c.args in put_part g.room.now g.bytes.now g.at c.in_ok-behind.ensures c.copy.ensures
